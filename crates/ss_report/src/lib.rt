@@ -28,11 +28,10 @@ pub use payloads::Payloads;
 pub use runs::counters::{
     run_counters, write_block_counter, write_counters_end, write_message_counter,
 };
-pub use runs::extract::{run_extract, run_extract_as};
+pub use runs::extract::run_extract;
 pub use runs::extraction::{ExtractFault, Extraction, Selection};
 pub use runs::inspect::run_inspect;
 pub use runs::questions::run_questions;
-pub use runs::questions_as::run_questions_as;
 pub use runs::review::run_review;
 pub use runs::review_as::run_review_as;
 pub use runs::review_between::run_review_between;

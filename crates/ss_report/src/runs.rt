@@ -8,7 +8,6 @@ pub(crate) mod lookups;
 pub(crate) mod outcome;
 pub(crate) mod places;
 pub(crate) mod questions;
-pub(crate) mod questions_as;
 pub(crate) mod review;
 pub(crate) mod review_as;
 pub(crate) mod review_between;

@@ -11,7 +11,7 @@ use ss_frame::{Form, Watched};
 use ss_octets::Bytes;
 use ss_report::{
     Detail, Extraction, InspectionForm, Payloads, ReadOptions, ReportForm, Run, RunFault,
-    Selection, Verdict, run_counters, run_extract_as, run_inspect, run_questions_as, run_review_as,
+    Selection, Verdict, run_counters, run_extract, run_inspect, run_questions, run_review_as,
     run_review_between, run_review_whole,
 };
 use ss_review::{Counter, Judge};
@@ -135,11 +135,11 @@ pub fn run_task<R: Read, W: Write, J: Judge + Drop>(
             None if whole => run_review_whole(run, judge, form, detail, up_to(counters)),
             None => run_review_as(run, judge, form, detail),
         },
-        Task::Questions => run_questions_as(run, notation, payloads),
-        Task::Extract => run_extract_as(run, judge, extraction),
+        Task::Questions => run_questions(run, notation, payloads),
+        Task::Extract => run_extract(run, judge, extraction),
         Task::Inspect => run_inspect(run, inspection_form(reporting)),
         Task::Counters => run_counters(run, judge, notation),
-        Task::Carry => run_extract_as(run, judge, carrying()),
+        Task::Carry => run_extract(run, judge, carrying()),
     }
 }
 

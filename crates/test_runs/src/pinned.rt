@@ -11,7 +11,7 @@ use ss_message::Field;
 use ss_octets::Bytes;
 use ss_report::{
     Detail, Extraction, Notation, Payloads, ReadOptions, ReportForm, Run, RunFault, Selection,
-    Verdict, run_counters, run_extract_as, run_questions_as, run_review_as, run_review_between,
+    Verdict, run_counters, run_extract, run_questions, run_review_as, run_review_between,
     run_review_whole,
 };
 use ss_review::{Counter, Counts, Verifier};
@@ -492,10 +492,10 @@ fn run_by<R: Read, W: Write>(
         Job::Whole => run_review_whole(run, verifier, form, detail, sent),
         Job::Night => run_review_between(run, verifier, form, detail, before, Some(sent)),
         Job::Counters => run_counters(run, verifier, Notation::Plain),
-        Job::Extract => run_extract_as(run, verifier, extraction(Selection::Listed)),
-        Job::Carry => run_extract_as(run, verifier, extraction(Selection::Carried)),
-        Job::Questions => run_questions_as(run, Notation::Plain, Payloads::InEach),
-        Job::QuestionsOnce => run_questions_as(run, Notation::Plain, Payloads::Once),
+        Job::Extract => run_extract(run, verifier, extraction(Selection::Listed)),
+        Job::Carry => run_extract(run, verifier, extraction(Selection::Carried)),
+        Job::Questions => run_questions(run, Notation::Plain, Payloads::InEach),
+        Job::QuestionsOnce => run_questions(run, Notation::Plain, Payloads::Once),
     }
 }
 

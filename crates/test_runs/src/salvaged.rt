@@ -3,7 +3,7 @@ use crate::book::Yes;
 use ss_frame::{Form, FrameFault, Limits, Watched};
 use ss_report::{
     Detail, Extraction, InspectionForm, Notation, Payloads, ReadOptions, ReportForm, Run, RunFault,
-    Selection, Verdict, run_counters, run_extract_as, run_inspect, run_questions_as, run_review_as,
+    Selection, Verdict, run_counters, run_extract, run_inspect, run_questions, run_review_as,
     run_review_between, run_review_whole,
 };
 use ss_review::Places;
@@ -161,9 +161,9 @@ fn make(
         Job::Review(form, detail) => run_review_as(run, Yes, form, detail),
         Job::Whole => run_review_whole(run, Yes, text, each, &[]),
         Job::Night => run_review_between(run, Yes, text, each, &[], None),
-        Job::Questions => run_questions_as(run, Notation::Plain, Payloads::InEach),
-        Job::Selected => run_extract_as(run, Yes, extraction(Selection::Unlisted)),
-        Job::At(place) => run_extract_as(run, Yes, at(alloc, place)?),
+        Job::Questions => run_questions(run, Notation::Plain, Payloads::InEach),
+        Job::Selected => run_extract(run, Yes, extraction(Selection::Unlisted)),
+        Job::At(place) => run_extract(run, Yes, at(alloc, place)?),
         Job::Counters => run_counters(run, Yes, Notation::Plain),
         Job::Inspection(lines) => run_inspect(run, as_it_stands(lines)),
     };

@@ -1,13 +1,12 @@
 -- The runs over a log: what each writes of its messages and its ending, and its verdict. Those that review go by the
 -- payloads that are known beforehand, where some are given (`Pinned.antt` of `ss_review`).
 use Rattle.std.specs.Prelude.{true, false, ℕ, Option, None, List, flat_map}
-use Rattle.ss_frame.specs.Frame.{frames, units_in}
+use Rattle.ss_frame.specs.Frame.{units_in}
 use Rattle.ss_frame.specs.Watched.{Source, Sink}
 use Rattle.ss_review.specs.keep.Notes.{notes}
 use Rattle.ss_review.specs.keep.Contents.{blocks, contents}
 use Rattle.ss_review.specs.sessions.Verified.{Answers}
 use Rattle.ss_review.specs.report.Report.{report}
-use Rattle.ss_review.specs.report.Extract.{extract}
 use Rattle.ss_review.specs.Laws.{ListsWhatIsAnnounced}
 use Rattle.ss_review.specs.announced.Announced.{Key}
 use Rattle.ss_review.specs.counted.KeptLaws.{NumberIsTold, BlockIsTold}
@@ -31,7 +30,6 @@ use Rattle.ss_report.specs.declared.forms.report_form.ReportForm.{ReportForm}
 use Rattle.ss_report.specs.declared.lines.detail.Detail.{Detail}
 use Rattle.ss_report.specs.declared.notation.Notation.{Notation}
 use Rattle.ss_report.specs.declared.payloads.Payloads.{Payloads}
-use Rattle.ss_report.specs.declared.payloads.Payloads.TheVariants as payloads
 use Rattle.ss_report.specs.declared.verdict.verdict.Verdict.{Verdict}
 
 -- a line a message, in a form
@@ -84,17 +82,13 @@ reviewing_between form detail first second known says = record {
 }
 
 -- what a review asks of a signature scheme, with each payload in each question about it, or once
-abbrev pub asking_as : Notation → Payloads → (known : Option (List (List ℕ))) → Job
-asking_as notation payloads known = record {
+abbrev pub asking : Notation → Payloads → (known : Option (List (List ℕ))) → Job
+asking notation payloads known = record {
   output = λ messages ending. questions_as notation payloads known (blocks (notes messages));
   verdict = λ messages ending. end_verdict ending;
   reviews = true;
   refusal = nothing;
 }
-
--- the same with each payload in each question about it, where no payload is known beforehand
-abbrev pub asking : Notation → Job
-asking notation = asking_as notation payloads.InEach None
 
 -- the counters of the joined sessions
 abbrev pub counting : Notation → (known : Option (List (List ℕ))) → Answers → Job
@@ -109,22 +103,13 @@ counting notation known says = record {
 
 -- the messages that are selected, as they stand or out of their wraps, in a form, whatever the form of the log; a place
 -- that the log hasn't is refused, and a message that is no line of the form
-abbrev pub extracting_as : Extraction → (known : Option (List (List ℕ))) → Answers → Job
-extracting_as e known says = record {
+abbrev pub extracting : Extraction → (known : Option (List (List ℕ))) → Answers → Job
+extracting e known says = record {
   output = λ messages ending.
       units_in e.form (messages_at (shown e.unwrap messages) (selected e.selection known says messages));
   verdict = λ messages ending. selected_verdict e.selection known says messages ending;
   reviews = is_reviewed e.selection;
   refusal = refusal e known says;
-}
-
--- the messages that the report lists, in its order, as octet-counted frames
-abbrev pub extracting : Answers → Job
-extracting says = record {
-  output = λ messages ending. frames (extract messages (report says messages));
-  verdict = λ messages ending. report_verdict (report says messages) ending;
-  reviews = true;
-  refusal = nothing;
 }
 
 -- a review that succeeds, and its report lists what is announced

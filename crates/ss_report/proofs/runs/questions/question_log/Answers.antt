@@ -5,7 +5,7 @@ use Rattle.ss_review.specs.questions.Questions.{questions_shared}
 use Rattle.ss_review.specs.pinned.Pinned.{questions_by, sessions_by}
 use Rattle.ss_report.specs.runs.Run.{given}
 use Rattle.ss_report.proofs.of_writing.QuestionLines.{lines_as}
-use Rattle.ss_report.proofs.runs.questions_as.question_log.Goals as goal
+use Rattle.ss_report.proofs.runs.questions.question_log.Goals as goal
 
 pub returns-clause-made : goal.returns-clause-made
 returns-clause-made g c = λ notation.

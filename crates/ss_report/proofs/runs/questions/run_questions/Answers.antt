@@ -1,5 +1,5 @@
 use Rattle.ss_report.proofs.of_reading.Answered.{runs_if_ok, stops_if_err, fails_by_write, never_of_memory}
-use Rattle.ss_report.proofs.runs.questions_as.run_questions_as.Goals as goal
+use Rattle.ss_report.proofs.runs.questions.run_questions.Goals as goal
 
 pub returns-clause-asked : goal.returns-clause-asked
 returns-clause-asked g c =

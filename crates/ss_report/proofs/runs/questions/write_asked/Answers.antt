@@ -1,7 +1,7 @@
 use Rattle.ss_report.proofs.of_writing.Writings.{writes_same}
 use Rattle.ss_report.proofs.of_writing.QuestionLines.{each_lines, once_lines}
 use Rattle.ss_report.proofs.of_writing.MarksSoFar.{marks_where_once}
-use Rattle.ss_report.proofs.runs.questions_as.write_asked.Goals as goal
+use Rattle.ss_report.proofs.runs.questions.write_asked.Goals as goal
 
 pub write_questions_once-requires : goal.write_questions_once-requires
 write_questions_once-requires g c =
