@@ -1,6 +1,5 @@
 -- What is asked of a log.
-use Rattle.std.specs.Prelude.{ℕ, false, List, Option, Some, None, if◌then◌else◌, option_map}
-use Rattle.std.specs.Borrow.{Bor}
+use Rattle.std.specs.Prelude.{ℕ, false, List, Option, Some, None, if◌then◌else◌}
 use Rattle.ss_review.specs.sessions.Verified.{Answers}
 use Rattle.ss_review.specs.declared.counted.counter.Counter.{Counter}
 use Rattle.ss_report.specs.forms.Forms.{notation_of}
@@ -15,10 +14,6 @@ use Rattle.ss_report.specs.declared.runs.extraction.Selection.TheVariants.{Carri
 use Rattle.ssign.specs.declared.task.Reporting.{Reporting}
 use Rattle.ssign.specs.declared.task.Task.{Task}
 use Rattle.ssign.specs.declared.task.Task.TheVariants.{Review, Questions, Extract, Inspect, Counters, Carry}
-
--- what a file has, counters or payloads, where one is given
-abbrev pub given : {X : Type 0} → Option (Bor (List X)) → Option (List X)
-given xs = option_map (λ ys. ys.now) xs
 
 -- a review by these known payloads, with or without what is missing beside the report, up to these counters; or of one
 -- night, where those at which it begins are given
