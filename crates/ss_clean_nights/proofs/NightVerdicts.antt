@@ -101,10 +101,10 @@ settled_night b =
     ∙ (λ i. ((settled_session b.report i && settled_early s b.early i) && is_none b.beyond) && (is_none b.short.tails && is_none b.short.blocks))
 
 settled_nights : (first : List Counter) (second : Option (List Counter)) (ps : List (SessionReport × Shortfall))
-    → list_all is_settled (flat_map (lines_of_night details.Itemized first second) ps) ≡ list_all is_settled_night (map (session_between first second) ps)
+    → list_all is_settled (flat_map (lines_of_night details.Itemized (Some first) second) ps) ≡ list_all is_settled_night (map (session_between first second) ps)
 settled_nights first second [] = refl
 settled_nights first second (p ∷ ps) =
-    list_all-append is_settled (lines_of_night details.Itemized first second p) (flat_map (lines_of_night details.Itemized first second) ps)
+    list_all-append is_settled (lines_of_night details.Itemized (Some first) second p) (flat_map (lines_of_night details.Itemized (Some first) second) ps)
     ∙ (λ i. settled_night (session_between first second p) i && settled_nights first second ps i)
 
 -- ---- the other lines
@@ -156,11 +156,11 @@ settled_others r ending =
     ∙ (λ i. settled_single r i && settled_end ending r.count i)
 
 settled_all : (first : List Counter) (second : Option (List Counter)) (r : Report) (short : LogShortfalls) (ending : Ending)
-    → list_all is_settled (lines_between details.Itemized first second r short ending)
+    → list_all is_settled (lines_between details.Itemized (Some first) second r short ending)
     ≡ ((list_all is_settled_night (map (session_between first second) (zip r.sessions short.known)) && is_none (absent_left first short.absent)) && is_settled_rest r ending)
 unfolding lines_between
 settled_all first second r short ending =
-    let nights = flat_map (lines_of_night details.Itemized first second) (zip r.sessions short.known) in
+    let nights = flat_map (lines_of_night details.Itemized (Some first) second) (zip r.sessions short.known) in
     let absent = flat_map absent_lines (absent_left first short.absent) in
     list_all-append is_settled (nights ++ absent) (other_lines details.Itemized r ending)
     ∙ (λ i. list_all-append is_settled nights absent i && settled_others r ending i)
@@ -264,7 +264,7 @@ module _ (says : Answers) (log : List (List ℕ)) (first : List Counter) (second
   verdict_is : between_verdict says first second log ending ≡ verdict_of settled
   unfolding night_report
   verdict_is =
-      ap (λ cs. verdict_of (list_all is_settled (lines_between details.Itemized first second r (shortfalls_of says log cs) ending))) (same_end second)
+      ap (λ cs. verdict_of (list_all is_settled (lines_between details.Itemized (Some first) second r (shortfalls_of says log cs) ending))) (same_end second)
       ∙ ap verdict_of (settled_all first second r (shortfalls_of says log (end_counters second)) ending)
 
   there : between_verdict says first second log ending ≡ verdicts.Clean → IsCleanNight r n × (ending.damaged ≡ []) × (ending.tail ≡ tails.Clean)

@@ -1,6 +1,5 @@
 pub mod PinnedLogs
 pub mod WholeLines
-pub mod MissingTaken
 pub mod CountersWritten
 pub mod LogCounters
 pub mod Tallies

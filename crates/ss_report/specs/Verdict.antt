@@ -1,5 +1,5 @@
 -- Whether a log leaves anything to look into.
-use Rattle.std.specs.Prelude.{Bool, true, false, ◌&&◌, if◌then◌else◌}
+use Rattle.std.specs.Prelude.{Bool, true, false, ◌&&◌, if◌then◌else◌, List}
 use Rattle.std.specs.List.{list_all}
 use Rattle.ss_frame.specs.declared.step.Tail.{Tail}
 use Rattle.ss_frame.specs.declared.step.Tail.TheVariants as tails
@@ -7,7 +7,7 @@ use Rattle.ss_review.specs.declared.report.report.Report.{Report}
 use Rattle.ss_review.specs.report.Verdict.{is_none}
 use Rattle.ss_report.specs.declared.log.ending.Ending.{Ending}
 use Rattle.ss_report.specs.declared.lines.detail.Detail.TheVariants as details
-use Rattle.ss_report.specs.lines.Lines.{lines}
+use Rattle.ss_report.specs.lines.Lines.{ReportLine, lines}
 use Rattle.ss_report.specs.lines.Settled.{is_settled}
 use Rattle.ss_report.specs.declared.verdict.verdict.Verdict.{Verdict}
 use Rattle.ss_report.specs.declared.verdict.verdict.Verdict.TheVariants as verdicts
@@ -28,6 +28,10 @@ is_clean_ending ending = is_none ending.damaged && is_clean_tail ending.tail
 abbrev pub end_verdict : Ending → Verdict
 end_verdict ending = verdict_of (is_clean_ending ending)
 
+-- clean where none of these lines leaves anything to look into
+abbrev pub lines_verdict : List ReportLine → Verdict
+lines_verdict ls = verdict_of (list_all is_settled ls)
+
 -- clean where no line of the report on a log with this ending leaves anything to look into
 abbrev pub report_verdict : Report → Ending → Verdict
-report_verdict report ending = verdict_of (list_all is_settled (lines details.Itemized report ending))
+report_verdict report ending = lines_verdict (lines details.Itemized report ending)

@@ -13,7 +13,7 @@ use Rattle.ss_review.specs.report.Verdict.{is_clean, is_none}
 use Rattle.ss_review.specs.sessions.Verified.{Answers}
 use Rattle.ss_report.specs.declared.log.ending.Ending.{Ending}
 use Rattle.ss_report.specs.Verdict.{end_verdict, report_verdict}
-use Rattle.ss_report.specs.lines.Whole.{whole_verdict_by}
+use Rattle.ss_report.specs.lines.Between.{whole_verdict_by}
 use Rattle.ss_report.specs.declared.verdict.verdict.Verdict.{Verdict}
 use Rattle.ss_report.specs.declared.verdict.verdict.Verdict.TheVariants as verdicts
 

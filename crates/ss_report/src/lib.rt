@@ -25,17 +25,15 @@ pub use log::output::{end_text, write_whole};
 pub use log::read_options::ReadOptions;
 pub use notation::Notation;
 pub use payloads::Payloads;
+pub use runs::beside::Beside;
 pub use runs::counters::{
     run_counters, write_block_counter, write_counters_end, write_message_counter,
 };
-pub use runs::extract::{run_extract, run_extract_as};
+pub use runs::extract::run_extract;
 pub use runs::extraction::{ExtractFault, Extraction, Selection};
 pub use runs::inspect::run_inspect;
 pub use runs::questions::run_questions;
-pub use runs::questions_as::run_questions_as;
 pub use runs::review::run_review;
 pub use runs::review_as::run_review_as;
-pub use runs::review_between::run_review_between;
-pub use runs::review_whole::run_review_whole;
 pub use runs::run::Run;
 pub use verdict::verdict::Verdict;

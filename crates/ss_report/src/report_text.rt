@@ -36,5 +36,6 @@ pub fn report_text(alloc: Global, report: &Report, tail: Tail) -> Result<Bytes, 
 pub(crate) fn write_report<W: Write>(writer: &mut Watched<W>, report: &Report, ending: &Ending)
     ensures { Writes (sink_of W.contents writer.old) (sink_of W.contents writer.new) (report_lines report.now ending.now) }
 {
-    write_report_as(writer, report, ending, ReportForm::Text, Detail::Itemized);
+    let text = ReportForm::Text;
+    write_report_as(writer, report, &None, ending, text, Detail::Itemized);
 }

@@ -1,4 +1,5 @@
 //! The runs over a stored log: each reads it to its end, and writes a text about it, or messages of it.
+pub(crate) mod beside;
 pub(crate) mod carrying;
 pub(crate) mod counters;
 pub(crate) mod extract;
@@ -8,11 +9,8 @@ pub(crate) mod lookups;
 pub(crate) mod outcome;
 pub(crate) mod places;
 pub(crate) mod questions;
-pub(crate) mod questions_as;
 pub(crate) mod review;
 pub(crate) mod review_as;
-pub(crate) mod review_between;
-pub(crate) mod review_whole;
 pub(crate) mod run;
 pub(crate) mod selecting;
 pub(crate) mod unwrapping;

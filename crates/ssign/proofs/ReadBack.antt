@@ -8,7 +8,9 @@ use Rattle.ss_review.specs.sessions.Verified.{Answers}
 use Rattle.ss_report.specs.runs.CounterLaws.{CountersAreTheLogs}
 use Rattle.ss_report.specs.forms.Forms.{line_as}
 use Rattle.ss_report.specs.runs.Jobs.{counting}
-use Rattle.ss_report.specs.lines.Whole.{lines_with, verdict_with}
+use Rattle.ss_report.specs.lines.Between.{lines_between}
+use Rattle.ss_report.specs.Verdict.{lines_verdict}
+use Rattle.ss_report.specs.declared.lines.detail.Detail.TheVariants as details
 use Rattle.ss_report.specs.declared.notation.Notation.TheVariants.{Plain}
 use Rattle.ss_answers.specs.CounterFile.{HasOnly, PartsHaveTheirCounters, part_text}
 use Rattle.ssign.specs.ReadBack.{ChangeNothing, CountersAreReadBack}
@@ -17,8 +19,9 @@ changes_nothing : LogCountersAddNothing → CountersGivenBack
     → (says : Answers) (log : List (List ℕ)) → ChangeNothing says log (log_counters says log)
 changes_nothing nothing given_back says log = record {
   output = λ form detail tail.
-      ap (λ short. flat_map (line_as form) (lines_with detail (report says log) short tail)) (nothing says log);
-  verdict = λ form detail tail. ap (λ short. verdict_with (report says log) short tail) (nothing says log);
+      ap (λ short. flat_map (line_as form) (lines_between detail None None (report says log) short tail)) (nothing says log);
+  verdict = λ form detail tail.
+      ap (λ short. lines_verdict (lines_between details.Itemized None None (report says log) short tail)) (nothing says log);
   missing = given_back says log;
 }
 

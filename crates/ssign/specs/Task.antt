@@ -1,12 +1,11 @@
 -- What is asked of a log.
-use Rattle.std.specs.Prelude.{ℕ, false, List, Option, Some, None, if◌then◌else◌, option_map}
-use Rattle.std.specs.Borrow.{Bor}
+use Rattle.std.specs.Prelude.{ℕ, false, List, Option, Some, None, if◌then◌else◌}
 use Rattle.ss_review.specs.sessions.Verified.{Answers}
 use Rattle.ss_review.specs.declared.counted.counter.Counter.{Counter}
 use Rattle.ss_report.specs.forms.Forms.{notation_of}
 use Rattle.ss_report.specs.runs.Run.{Job}
 use Rattle.ss_report.specs.lines.Between.{end_counters}
-use Rattle.ss_report.specs.runs.Jobs.{asking_as, counting, extracting_as, inspecting, reviewing_as, reviewing_between}
+use Rattle.ss_report.specs.runs.Jobs.{asking, counting, extracting, inspecting, reviewing_as, reviewing_between}
 use Rattle.ss_report.specs.runs.Jobs.{reviewing_whole}
 use Rattle.ss_frame.specs.declared.limits.Form.TheVariants.{Frames}
 use Rattle.ss_report.specs.declared.forms.inspection_form.InspectionForm.{InspectionForm}
@@ -15,10 +14,6 @@ use Rattle.ss_report.specs.declared.runs.extraction.Selection.TheVariants.{Carri
 use Rattle.ssign.specs.declared.task.Reporting.{Reporting}
 use Rattle.ssign.specs.declared.task.Task.{Task}
 use Rattle.ssign.specs.declared.task.Task.TheVariants.{Review, Questions, Extract, Inspect, Counters, Carry}
-
--- what a file has, counters or payloads, where one is given
-abbrev pub given : {X : Type 0} → Option (Bor (List X)) → Option (List X)
-given xs = option_map (λ ys. ys.now) xs
 
 -- a review by these known payloads, with or without what is missing beside the report, up to these counters; or of one
 -- night, where those at which it begins are given
@@ -43,8 +38,8 @@ abbrev pub job_of :
     Answers → Reporting → (known : Option (List (List ℕ))) → (first counters : Option (List Counter)) → Extraction → Task
     → Job
 job_of says r known first counters e Review = review_of says r known first counters
-job_of says r known first counters e Questions = asking_as (notation_of r.form) r.payloads known
-job_of says r known first counters e Extract = extracting_as e known says
+job_of says r known first counters e Questions = asking (notation_of r.form) r.payloads known
+job_of says r known first counters e Extract = extracting e known says
 job_of says r known first counters e Inspect = inspecting (inspection_form r)
 job_of says r known first counters e Counters = counting (notation_of r.form) known says
-job_of says r known first counters e Carry = extracting_as carrying known says
+job_of says r known first counters e Carry = extracting carrying known says

@@ -3,16 +3,14 @@ ghost use Rattle.std.specs.Prelude.{◌≡◌, ◌≢◌, false, IfOk, IfErr};
 ghost use Rattle.ss_frame.specs.Watched.{has_failed, source_of, sink_of};
 ghost use Rattle.ss_review.specs.declared.questions.question.Question.{Question};
 ghost use Rattle.ss_review.specs.sessions.Verified.{answers};
-ghost use Rattle.ss_report.specs.runs.Run.{Runs, Stops};
-ghost use Rattle.ss_report.specs.lines.Between.{end_counters};
-ghost use Rattle.ssign.specs.Task.{carrying, given, inspection_form, job_of};
+ghost use Rattle.ss_report.specs.runs.Run.{Runs, Stops, given};
+ghost use Rattle.ssign.specs.Task.{carrying, inspection_form, job_of};
 
 use ss_frame::{Form, Watched};
 use ss_octets::Bytes;
 use ss_report::{
-    Detail, Extraction, InspectionForm, Payloads, ReadOptions, ReportForm, Run, RunFault,
-    Selection, Verdict, run_counters, run_extract_as, run_inspect, run_questions_as, run_review_as,
-    run_review_between, run_review_whole,
+    Beside, Detail, Extraction, InspectionForm, Payloads, ReadOptions, ReportForm, Run, RunFault,
+    Selection, Verdict, run_counters, run_extract, run_inspect, run_questions, run_review_as,
 };
 use ss_review::{Counter, Judge};
 use std::alloc::Global;
@@ -131,15 +129,21 @@ pub fn run_task<R: Read, W: Write, J: Judge + Drop>(
     let notation = form.notation();
     match task {
         Task::Review => match first {
-            Some(first) => run_review_between(run, judge, form, detail, first, counters),
-            None if whole => run_review_whole(run, judge, form, detail, up_to(counters)),
-            None => run_review_as(run, judge, form, detail),
+            Some(first) => {
+                let second = counters;
+                run_review_as(run, judge, form, detail, Beside::Night { first, second })
+            }
+            None if whole => {
+                let up_to = counters;
+                run_review_as(run, judge, form, detail, Beside::Missing { up_to })
+            }
+            None => run_review_as(run, judge, form, detail, Beside::Nothing),
         },
-        Task::Questions => run_questions_as(run, notation, payloads),
-        Task::Extract => run_extract_as(run, judge, extraction),
+        Task::Questions => run_questions(run, notation, payloads),
+        Task::Extract => run_extract(run, judge, extraction),
         Task::Inspect => run_inspect(run, inspection_form(reporting)),
         Task::Counters => run_counters(run, judge, notation),
-        Task::Carry => run_extract_as(run, judge, carrying()),
+        Task::Carry => run_extract(run, judge, carrying()),
     }
 }
 
@@ -161,15 +165,5 @@ fn inspection_form(reporting: Reporting) -> InspectionForm
     InspectionForm {
         lines: reporting.form,
         unwrap: reporting.unwrap,
-    }
-}
-
-/// These counters, or none.
-fn up_to<'c>(counters: Option<&'c [Counter]>) -> &'c [Counter]
-    ensures { result.now ≡ end_counters (given counters.entry) }
-{
-    match counters {
-        Some(counters) => counters,
-        None => &[],
     }
 }

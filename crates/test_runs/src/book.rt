@@ -7,8 +7,8 @@ use crate::texts::{Text, signed_of};
 use ss_block::Scheme;
 use ss_frame::Form;
 use ss_report::{
-    Extraction, Notation, Payloads, Run, RunFault, Selection, Verdict, run_extract, run_extract_as,
-    run_questions, run_questions_as, run_review,
+    Extraction, Notation, Payloads, Run, RunFault, Selection, Verdict, run_extract, run_questions,
+    run_review,
 };
 use ss_review::{Judge, Verifier};
 use std::alloc::{AllocError, Global};
@@ -82,10 +82,10 @@ pub enum Job {
     Carry,
 }
 
-/// What is carried over to the next log, as frames.
-fn carrying() -> Extraction {
+/// These messages, as frames.
+fn frames_of(selection: Selection) -> Extraction {
     Extraction {
-        selection: Selection::Carried,
+        selection,
         form: Form::Frames,
         unwrap: false,
     }
@@ -100,42 +100,28 @@ pub(crate) fn run_by<R: Read, W: Write>(
     requires reader { has_failed run.reader.now ≡ false }
     requires writer { has_failed run.writer.now ≡ false }
 {
-    let Run {
-        reader,
-        writer,
-        options,
-        known,
-        alloc,
-    } = run;
-    let limits = options.limits;
     let trust = |payload: &[u8]| book.trusts(payload);
     let check = |payload: &[u8], octets: &[u8], sign: &[u8]| book.accepts(payload, octets, sign);
     let verifier = Verifier::new(book, trust, check);
     match job {
-        Job::Review => run_review(alloc, reader, writer, &verifier, limits),
-        Job::Questions => run_questions(alloc, reader, writer, limits, Notation::Plain),
-        Job::QuestionsJson => run_questions(alloc, reader, writer, limits, Notation::Json),
+        Job::Review => {
+            let Run {
+                reader,
+                writer,
+                options,
+                alloc,
+                ..
+            } = run;
+            run_review(alloc, reader, writer, &verifier, options.limits)
+        }
+        Job::Questions | Job::QuestionsJson => {
+            run_questions(run, notation_of(job), Payloads::InEach)
+        }
         Job::QuestionsOnce | Job::QuestionsOnceJson => {
-            let run = Run {
-                reader,
-                writer,
-                options,
-                known,
-                alloc,
-            };
-            run_questions_as(run, notation_of(job), Payloads::Once)
+            run_questions(run, notation_of(job), Payloads::Once)
         }
-        Job::Extract => run_extract(alloc, reader, writer, &verifier, limits),
-        Job::Carry => {
-            let run = Run {
-                reader,
-                writer,
-                options,
-                known,
-                alloc,
-            };
-            run_extract_as(run, verifier, carrying())
-        }
+        Job::Extract => run_extract(run, verifier, frames_of(Selection::Listed)),
+        Job::Carry => run_extract(run, verifier, frames_of(Selection::Carried)),
     }
 }
 

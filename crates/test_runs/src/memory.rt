@@ -13,8 +13,8 @@ use ss_message::Field;
 use ss_octets::{Bytes, NoMemory};
 use ss_report::report_text::report_text;
 use ss_report::{
-    Detail, Notation, ReadOptions, ReportForm, Run, RunFault, Verdict, run_counters, run_review_as,
-    run_review_between, run_review_whole,
+    Beside, Detail, Notation, ReadOptions, ReportForm, Run, RunFault, Verdict, run_counters,
+    run_review_as,
 };
 use ss_review::{
     AskedSession, AskedSessions, Counter, Counts, Question, Questioner, Questions, Report,
@@ -263,29 +263,23 @@ fn make(alloc: Global, kind: Kind) -> Result<Done, AllocError> {
         alloc,
     };
     let form = ReportForm::Text;
+    let each = Detail::Itemized;
     let said = match kind {
         Kind::Counters => run_counters(run, Yes, Notation::Plain),
-        Kind::Tally => run_review_as(run, Yes, form, Detail::Tally),
-        Kind::Whole => run_review_whole(run, Yes, form, Detail::Itemized, &sent),
+        Kind::Tally => run_review_as(run, Yes, form, Detail::Tally, Beside::Nothing),
+        Kind::Whole => {
+            let up_to = Some(sent.as_slice());
+            run_review_as(run, Yes, form, each, Beside::Missing { up_to })
+        }
         Kind::Night => {
-            run_review_between(
-                run,
-                Yes,
-                form,
-                Detail::Itemized,
-                &before,
-                Some(sent.as_slice()),
-            )
+            let first = before.as_slice();
+            let second = Some(sent.as_slice());
+            run_review_as(run, Yes, form, each, Beside::Night { first, second })
         }
         Kind::Older => {
-            run_review_between(
-                run,
-                Yes,
-                form,
-                Detail::Itemized,
-                &[],
-                Some(before.as_slice()),
-            )
+            let first = &[];
+            let second = Some(before.as_slice());
+            run_review_as(run, Yes, form, each, Beside::Night { first, second })
         }
     };
     Ok(Done {

@@ -10,9 +10,8 @@ use ss_frame::{Form, Watched};
 use ss_message::Field;
 use ss_octets::Bytes;
 use ss_report::{
-    Detail, Extraction, Notation, Payloads, ReadOptions, ReportForm, Run, RunFault, Selection,
-    Verdict, run_counters, run_extract_as, run_questions_as, run_review_as, run_review_between,
-    run_review_whole,
+    Beside, Detail, Extraction, Notation, Payloads, ReadOptions, ReportForm, Run, RunFault,
+    Selection, Verdict, run_counters, run_extract, run_questions, run_review_as,
 };
 use ss_review::{Counter, Counts, Verifier};
 use std::alloc::{AllocError, Global};
@@ -488,14 +487,21 @@ fn run_by<R: Read, W: Write>(
     let detail = Detail::Itemized;
     let (before, sent) = night;
     match job {
-        Job::Review => run_review_as(run, verifier, form, detail),
-        Job::Whole => run_review_whole(run, verifier, form, detail, sent),
-        Job::Night => run_review_between(run, verifier, form, detail, before, Some(sent)),
+        Job::Review => run_review_as(run, verifier, form, detail, Beside::Nothing),
+        Job::Whole => {
+            let up_to = Some(sent);
+            run_review_as(run, verifier, form, detail, Beside::Missing { up_to })
+        }
+        Job::Night => {
+            let first = before;
+            let second = Some(sent);
+            run_review_as(run, verifier, form, detail, Beside::Night { first, second })
+        }
         Job::Counters => run_counters(run, verifier, Notation::Plain),
-        Job::Extract => run_extract_as(run, verifier, extraction(Selection::Listed)),
-        Job::Carry => run_extract_as(run, verifier, extraction(Selection::Carried)),
-        Job::Questions => run_questions_as(run, Notation::Plain, Payloads::InEach),
-        Job::QuestionsOnce => run_questions_as(run, Notation::Plain, Payloads::Once),
+        Job::Extract => run_extract(run, verifier, extraction(Selection::Listed)),
+        Job::Carry => run_extract(run, verifier, extraction(Selection::Carried)),
+        Job::Questions => run_questions(run, Notation::Plain, Payloads::InEach),
+        Job::QuestionsOnce => run_questions(run, Notation::Plain, Payloads::Once),
     }
 }
 

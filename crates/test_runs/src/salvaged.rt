@@ -2,9 +2,9 @@
 use crate::book::Yes;
 use ss_frame::{Form, FrameFault, Limits, Watched};
 use ss_report::{
-    Detail, Extraction, InspectionForm, Notation, Payloads, ReadOptions, ReportForm, Run, RunFault,
-    Selection, Verdict, run_counters, run_extract_as, run_inspect, run_questions_as, run_review_as,
-    run_review_between, run_review_whole,
+    Beside, Detail, Extraction, InspectionForm, Notation, Payloads, ReadOptions, ReportForm, Run,
+    RunFault, Selection, Verdict, run_counters, run_extract, run_inspect, run_questions,
+    run_review_as,
 };
 use ss_review::Places;
 use std::alloc::{AllocError, Global};
@@ -158,12 +158,24 @@ fn make(
     let text = ReportForm::Text;
     let each = Detail::Itemized;
     let said = match job {
-        Job::Review(form, detail) => run_review_as(run, Yes, form, detail),
-        Job::Whole => run_review_whole(run, Yes, text, each, &[]),
-        Job::Night => run_review_between(run, Yes, text, each, &[], None),
-        Job::Questions => run_questions_as(run, Notation::Plain, Payloads::InEach),
-        Job::Selected => run_extract_as(run, Yes, extraction(Selection::Unlisted)),
-        Job::At(place) => run_extract_as(run, Yes, at(alloc, place)?),
+        Job::Review(form, detail) => run_review_as(run, Yes, form, detail, Beside::Nothing),
+        Job::Whole => run_review_as(run, Yes, text, each, Beside::Missing { up_to: None }),
+        Job::Night => {
+            let first = &[];
+            run_review_as(
+                run,
+                Yes,
+                text,
+                each,
+                Beside::Night {
+                    first,
+                    second: None,
+                },
+            )
+        }
+        Job::Questions => run_questions(run, Notation::Plain, Payloads::InEach),
+        Job::Selected => run_extract(run, Yes, extraction(Selection::Unlisted)),
+        Job::At(place) => run_extract(run, Yes, at(alloc, place)?),
         Job::Counters => run_counters(run, Yes, Notation::Plain),
         Job::Inspection(lines) => run_inspect(run, as_it_stands(lines)),
     };

@@ -4,7 +4,7 @@ use ss_frame::{Form, Limits, Watched};
 use ss_octets::put_number;
 use ss_report::{
     ExtractFault, Extraction, InspectionForm, ReadOptions, ReportForm, Run, RunFault, Selection,
-    Verdict, run_extract_as, run_inspect,
+    Verdict, run_extract, run_inspect,
 };
 use ss_review::Places;
 use std::alloc::{AllocError, Global};
@@ -129,7 +129,7 @@ fn extract(
         known: None,
         alloc,
     };
-    let said = run_extract_as(run, Yes, extraction);
+    let said = run_extract(run, Yes, extraction);
     (said, writer.into_inner())
 }
 

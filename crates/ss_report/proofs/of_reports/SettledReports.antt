@@ -1,5 +1,5 @@
 -- A verdict is that of the report, of its end, and of what is missing beside it.
-use Rattle.std.proofs.Common.{◌≡◌, ℕ, Bool, true, false, List, [], ◌∷◌, ◌++◌, ◌&&◌, length, map, flat_map, Option, Some, None, refl, ap, ◌∙◌, append_assoc, arith}
+use Rattle.std.proofs.Common.{◌≡◌, ℕ, Bool, true, false, List, [], ◌∷◌, ◌++◌, ◌&&◌, length, map, flat_map, Option, Some, None, refl, ap, ◌∙◌, append-nil, append_assoc, arith}
 use Rattle.std.specs.Prelude.{zip}
 use Rattle.std.specs.List.{list_all}
 use Rattle.std.proofs.lemmas.List.{length-map}
@@ -30,10 +30,12 @@ use Rattle.ss_review.specs.report.Report.{report_of}
 use Rattle.ss_review.specs.report.Verdict.{is_clean, is_joined, is_listed, is_none}
 use Rattle.ss_review.specs.sessions.Sessions.{sessions}
 use Rattle.ss_review.specs.sessions.Verified.{Answers}
+use Rattle.ss_between.specs.Between.{beyond}
 use Rattle.ss_report.specs.declared.lines.detail.Detail.TheVariants as details
 use Rattle.ss_report.specs.lines.Lines.{UnlistedLine, RefusedLine, EndLine, entry_line, group_lines, session_lines, damage_line, ending_lines, spoilt_place_line, tail_lines, single_lines, other_lines, lines}
 use Rattle.ss_report.specs.lines.Settled.{is_settled}
-use Rattle.ss_report.specs.lines.Whole.{absent_lines, lines_beside, lines_with, missing_line, shortfall_lines, tail_line, whole_verdict_by}
+use Rattle.ss_report.specs.lines.Whole.{absent_lines, missing_line, shortfall_lines, tail_line}
+use Rattle.ss_report.specs.lines.Between.{lines_between, lines_of_night, whole_verdict_by}
 use Rattle.ss_report.specs.Verdict.{is_clean_ending, is_clean_tail, report_verdict, verdict_of}
 use Rattle.ss_report.specs.declared.log.ending.Damage.{Damage}
 use Rattle.ss_report.specs.declared.log.ending.Ending.{Ending}
@@ -148,15 +150,22 @@ both_by true true c d = refl
 both_by true false true d = refl
 both_by true false false d = refl
 
-settled_beside : (ss : List SessionReport) (fs : List Shortfall) → length ss ≡ length fs
-    → list_all is_settled (flat_map (lines_beside details.Itemized) (zip ss fs)) ≡ (list_all is_whole ss && list_all is_complete fs)
-settled_beside [] [] e = refl
-settled_beside [] (f ∷ fs) e = absurd (omega (arith, e))
-settled_beside (s ∷ ss) [] e = absurd (omega (arith, e))
-settled_beside (s ∷ ss) (f ∷ fs) e =
-    list_all-append is_settled (lines_beside details.Itemized (s, f)) (flat_map (lines_beside details.Itemized) (zip ss fs))
-    ∙ (λ i. list_all-append is_settled (session_lines details.Itemized s) (shortfall_lines f) i && settled_beside ss fs (omega (arith, e)) i)
-    ∙ (λ i. (settled_session s i && settled_short f i) && (list_all is_whole ss && list_all is_complete fs))
+settled_night : (s : SessionReport) (f : Shortfall) → list_all is_settled (lines_of_night details.Itemized None None (s, f)) ≡ (is_whole s && is_complete f)
+unfolding beyond
+settled_night s f =
+    let own = session_lines details.Itemized s in
+    ap (λ ls. list_all is_settled (ls ++ shortfall_lines f)) (append-nil (own ++ []) ∙ append-nil own)
+    ∙ list_all-append is_settled own (shortfall_lines f)
+    ∙ (λ i. settled_session s i && settled_short f i)
+
+settled_nights : (ss : List SessionReport) (fs : List Shortfall) → length ss ≡ length fs
+    → list_all is_settled (flat_map (lines_of_night details.Itemized None None) (zip ss fs)) ≡ (list_all is_whole ss && list_all is_complete fs)
+settled_nights [] [] e = refl
+settled_nights [] (f ∷ fs) e = absurd (omega (arith, e))
+settled_nights (s ∷ ss) [] e = absurd (omega (arith, e))
+settled_nights (s ∷ ss) (f ∷ fs) e =
+    list_all-append is_settled (lines_of_night details.Itemized None None (s, f)) (flat_map (lines_of_night details.Itemized None None) (zip ss fs))
+    ∙ (λ i. settled_night s f i && settled_nights ss fs (omega (arith, e)) i)
     ∙ both_by (is_whole s) (is_complete f) (list_all is_whole ss) (list_all is_complete fs)
 
 settled_absent : (fs : List Shortfall) → list_all is_settled (flat_map absent_lines fs) ≡ is_none fs
@@ -164,14 +173,14 @@ settled_absent [] = refl
 settled_absent (f ∷ fs) = refl
 
 settled_whole : (r : Report) (short : LogShortfalls) (ending : Ending) → length r.sessions ≡ length short.known
-    → list_all is_settled (lines_with details.Itemized r short ending)
+    → list_all is_settled (lines_between details.Itemized None None r short ending)
     ≡ (((list_all is_whole r.sessions && list_all is_complete short.known) && is_none short.absent) && (((is_none r.unlisted && is_none r.refused) && is_none r.spoilt) && is_clean_ending ending))
-unfolding lines_with
+unfolding lines_between
 settled_whole r short ending e =
-    let known = flat_map (lines_beside details.Itemized) (zip r.sessions short.known) in
+    let known = flat_map (lines_of_night details.Itemized None None) (zip r.sessions short.known) in
     list_all-append is_settled (known ++ flat_map absent_lines short.absent) (other_lines details.Itemized r ending)
     ∙ (λ i. list_all-append is_settled known (flat_map absent_lines short.absent) i && settled_others r ending i)
-    ∙ (λ i. (settled_beside r.sessions short.known e i && settled_absent short.absent i) && (((is_none r.unlisted && is_none r.refused) && is_none r.spoilt) && is_clean_ending ending))
+    ∙ (λ i. (settled_nights r.sessions short.known e i && settled_absent short.absent i) && (((is_none r.unlisted && is_none r.refused) && is_none r.spoilt) && is_clean_ending ending))
 
 whole_by : (w u r s k a : Bool) (ending : Ending)
     → verdict_of (((w && k) && a) && (((u && r) && s) && is_clean_ending ending)) ≡ verdict_where ((w && u && r && s) && (k && a)) ending

@@ -1,9 +1,8 @@
 -- The lines and the verdict that are made of a report, and of what was found to be missing beside it.
-use Rattle.std.proofs.Common.{◌≡◌, false, Option, List, ℕ, flat_map, refl, sym, ◌∙◌, subst}
+use Rattle.std.proofs.Common.{◌≡◌, false, Option, List, ℕ, flat_map, refl, sym, ap, ◌∙◌, subst}
 use Rattle.ss_frame.specs.Watched.{Source}
 use Rattle.ss_review.specs.declared.counted.counted_session.CountedSession.{CountedSession}
 use Rattle.ss_review.specs.declared.counted.counter.Counter.{Counter}
-use Rattle.ss_review.specs.declared.counted.shortfall.LogShortfalls.{LogShortfalls}
 use Rattle.ss_review.specs.declared.report.report.Report.{Report}
 use Rattle.ss_review.specs.keep.Notes.{notes}
 use Rattle.ss_review.specs.keep.Contents.{blocks, contents}
@@ -14,61 +13,50 @@ use Rattle.ss_review.specs.counted.KeptLaws.{LogsAreReviewed}
 use Rattle.ss_review.specs.pinned.Stands.{PinnedReportsAreOfLogs, shortfalls_by}
 use Rattle.ss_report.specs.log.Log.{ReadsLog}
 use Rattle.ss_report.specs.declared.lines.detail.Detail.{Detail}
+use Rattle.ss_report.specs.declared.lines.detail.Detail.TheVariants as details
+use Rattle.ss_report.specs.declared.lines.missing.Missing.{Missing}
 use Rattle.ss_report.specs.forms.Forms.{line_as}
 use Rattle.ss_report.specs.declared.forms.report_form.ReportForm.{ReportForm}
 use Rattle.ss_report.specs.declared.verdict.verdict.Verdict.{Verdict}
-use Rattle.ss_report.specs.lines.Whole.{lines_with, verdict_with}
-use Rattle.ss_report.specs.lines.Between.{end_counters, lines_between, verdict_between}
+use Rattle.ss_report.specs.Verdict.{lines_verdict}
+use Rattle.ss_report.specs.lines.Lines.{ReportLine}
+use Rattle.ss_report.specs.lines.Between.{lines_beside, lines_between, lines_by}
+use Rattle.ss_report.specs.declared.runs.beside.Beside.{Beside}
 use Rattle.ss_report.specs.runs.Run.{Makes}
-use Rattle.ss_report.specs.runs.Jobs.{reviewing_between, reviewing_whole}
+use Rattle.ss_report.specs.runs.Jobs.{reviewing_beside}
 use Rattle.ss_report.proofs.of_reports.PinnedLogs.{of_sessions_by}
 use Rattle.ss_report.specs.declared.log.read_options.ReadOptions.{ReadOptions}
 use Rattle.ss_report.specs.declared.log.ending.Ending.{Ending}
 
--- what was found to be missing is what is missing of the log
-found_is : (counters : List Counter) (known : Option (List (List ℕ))) (says : Answers) (messages : List (List ℕ)) (r : Report) (cs : List CountedSession) (short : LogShortfalls)
-    → r ≡ report_by known says (contents (notes messages)) → cs ≡ counted_by known says (blocks (notes messages)) → short ≡ log_shortfalls counters r.sessions cs → short ≡ shortfalls_by known says messages counters
-found_is counters known says messages r cs short told counted found = found ∙ (λ i. log_shortfalls counters (told i).sessions (counted i))
-
 -- the sessions of a review, and the GBC of their blocks, are as what computes it needs them
-pub reviewed_by : LogsAreReviewed → PinnedReportsAreOfLogs
+reviewed_by : LogsAreReviewed → PinnedReportsAreOfLogs
     → (known : Option (List (List ℕ))) (says : Answers) (messages : List (List ℕ)) (r : Report) (cs : List CountedSession)
     → r ≡ report_by known says (contents (notes messages)) → cs ≡ counted_by known says (blocks (notes messages)) → AreReviewed r.sessions cs
 reviewed_by reviewed law known says messages r cs told counted =
     subst (λ (p : Report × List CountedSession). AreReviewed p.0.sessions p.1) (λ i. (sym told i, sym counted i))
     (of_sessions_by law AreReviewed says (reviewed says) known messages)
 
-pub makes_whole : (form : ReportForm) (detail : Detail) (counters : List Counter) (known : Option (List (List ℕ))) (says : Answers) (options : ReadOptions) (before after : Source) (messages : List (List ℕ)) (ending : Ending)
-    → ReadsLog options before after messages ending → after.failed ≡ false
-    → (r : Report) (cs : List CountedSession) (short : LogShortfalls) (verdict : Verdict)
-    → r ≡ report_by known says (contents (notes messages)) → cs ≡ counted_by known says (blocks (notes messages)) → short ≡ log_shortfalls counters r.sessions cs → verdict ≡ verdict_with r short ending
-    → Makes (reviewing_whole form detail counters known says) options before after (flat_map (line_as form) (lines_with detail r short ending)) verdict
-makes_whole form detail counters known says options before after messages ending reading no_read_failed r cs short verdict told counted found judged =
-    let of_log = found_is counters known says messages r cs short told counted found in
-    record {
-      messages = messages;
-      ending = ending;
-      reading = reading;
-      no_read_failed = no_read_failed;
-      unrefused = refl;
-      output_is = λ i. flat_map (line_as form) (lines_with detail (told i) (of_log i) ending);
-      verdict_is = judged ∙ (λ i. verdict_with (told i) (of_log i) ending);
-    }
+-- what is found to be missing, and to be left of it, is what is missing of the log
+pub counted_lines : LogsAreReviewed → PinnedReportsAreOfLogs
+    → (known : Option (List (List ℕ))) (says : Answers) (messages : List (List ℕ)) (first second : Option (List Counter)) (up_to : List Counter) (r : Report) (cs : List CountedSession) (of : Detail → Ending → List ReportLine)
+    → r ≡ report_by known says (contents (notes messages)) → cs ≡ counted_by known says (blocks (notes messages))
+    → (AreReviewed r.sessions cs → (d : Detail) (e : Ending) → of d e ≡ lines_between d first second r (log_shortfalls up_to r.sessions cs) e)
+    → (d : Detail) (e : Ending) → of d e ≡ lines_between d first second (report_by known says (contents (notes messages))) (shortfalls_by known says messages up_to) e
+counted_lines reviewed law known says messages first second up_to r cs of told counted found = λ d e.
+    found (reviewed_by reviewed law known says messages r cs told counted) d e
+    ∙ (λ i. lines_between d first second (told i) (log_shortfalls up_to (told i).sessions (counted i)) e)
 
-pub makes_between : (form : ReportForm) (detail : Detail) (first : List Counter) (second : Option (List Counter)) (known : Option (List (List ℕ))) (says : Answers) (options : ReadOptions) (before after : Source) (messages : List (List ℕ)) (ending : Ending)
+pub makes_beside : (form : ReportForm) (detail : Detail) (beside : Beside) (known : Option (List (List ℕ))) (says : Answers) (options : ReadOptions) (before after : Source) (messages : List (List ℕ)) (ending : Ending)
     → ReadsLog options before after messages ending → after.failed ≡ false
-    → (r : Report) (cs : List CountedSession) (short : LogShortfalls) (own : List Counter) (other : Option (List Counter)) (verdict : Verdict)
-    → r ≡ report_by known says (contents (notes messages)) → cs ≡ counted_by known says (blocks (notes messages)) → short ≡ log_shortfalls (end_counters second) r.sessions cs
-    → own ≡ first → other ≡ second → verdict ≡ verdict_between own other r short ending
-    → Makes (reviewing_between form detail first second known says) options before after (flat_map (line_as form) (lines_between detail own other r short ending)) verdict
-makes_between form detail first second known says options before after messages ending reading no_read_failed r cs short own other verdict told counted found is_first is_second judged =
-    let of_log = found_is (end_counters second) known says messages r cs short told counted found in
-    record {
-      messages = messages;
-      ending = ending;
-      reading = reading;
-      no_read_failed = no_read_failed;
-      unrefused = refl;
-      output_is = λ i. flat_map (line_as form) (lines_between detail (is_first i) (is_second i) (told i) (of_log i) ending);
-      verdict_is = judged ∙ (λ i. verdict_between (is_first i) (is_second i) (told i) (of_log i) ending);
-    }
+    → (r : Report) (m : Option Missing) (verdict : Verdict)
+    → ((d : Detail) (e : Ending) → lines_beside d r m e ≡ lines_by known d says beside messages e) → verdict ≡ lines_verdict (lines_beside details.Itemized r m ending)
+    → Makes (reviewing_beside form detail beside known says) options before after (flat_map (line_as form) (lines_beside detail r m ending)) verdict
+makes_beside form detail beside known says options before after messages ending reading no_read_failed r m verdict same judged = record {
+  messages = messages;
+  ending = ending;
+  reading = reading;
+  no_read_failed = no_read_failed;
+  unrefused = refl;
+  output_is = ap (flat_map (line_as form)) (same detail ending);
+  verdict_is = judged ∙ ap lines_verdict (same details.Itemized ending);
+}

@@ -6,7 +6,6 @@ use Rattle.ss_report.specs.declared.forms.report_form.ReportForm.{ReportForm}
 use Rattle.ss_report.specs.declared.forms.report_form.ReportForm.TheVariants as forms
 use Rattle.ss_report.specs.declared.notation.Notation.{Notation}
 use Rattle.ss_report.specs.declared.notation.Notation.TheVariants.{Plain, Json}
-use Rattle.ss_report.specs.declared.lines.detail.Detail.{Detail}
 use Rattle.ss_report.specs.declared.lines.detail.Detail.TheVariants as details
 use Rattle.ss_report.specs.records.Written.{written}
 use Rattle.ss_report.specs.lines.Lines.{ReportLine, OkLine, lines}
@@ -36,10 +35,6 @@ abbrev pub line_as : ReportForm → ReportLine → List ℕ
 line_as form line =
     if has_findings_alone form && is_ok line then [] else written (notation_of form) (record_of line)
 
--- the whole report
-abbrev pub report_as : ReportForm → Detail → Report → Ending → List ℕ
-report_as form detail report ending = flat_map (line_as form) (lines detail report ending)
-
 -- the text of the report
 abbrev pub report_lines : Report → Ending → List ℕ
-report_lines report ending = report_as forms.Text details.Itemized report ending
+report_lines report ending = flat_map (line_as forms.Text) (lines details.Itemized report ending)

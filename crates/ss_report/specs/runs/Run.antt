@@ -18,9 +18,9 @@ pub record Job : Type 0 where
   pub reviews : Bool
   pub refusal : List (List ℕ) → Option ExtractFault
 
--- the payloads that are known beforehand, where some are given
-abbrev pub given : Option (Bor (List (List ℕ))) → Option (List (List ℕ))
-given known = option_map (λ ps. ps.now) known
+-- payloads that are known beforehand, or counters, where some are given
+abbrev pub given : {X : Type 0} → Option (Bor (List X)) → Option (List X)
+given xs = option_map (λ ys. ys.now) xs
 
 -- nothing is refused, whatever the messages
 abbrev pub nothing : List (List ℕ) → Option ExtractFault

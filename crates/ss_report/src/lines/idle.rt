@@ -2,13 +2,24 @@
 ghost use Rattle.std.specs.Prelude.{◌≡◌, ◌&&◌, filter_map};
 ghost use Rattle.ss_review.specs.report.Verdict.{is_none};
 ghost use Rattle.ss_between.specs.Between.{gbc_at, is_idle, own_tail_left, run_left, shortfall_left};
+ghost use Rattle.ss_report.specs.lines.Between.{is_idle_from};
 
 use ss_between::{Bounds, run_left, tail_left};
 use ss_block::Session;
 use ss_review::{GroupTail, MissingRun, Shortfall};
 
+/// Whether the session sent nothing in a night that begins at these counters, if it begins at any.
+pub(crate) fn is_idle_from(first: &Option<Bounds<'_>>, short: &Shortfall) -> bool
+    ensures { result ≡ is_idle_from first.now short.now }
+{
+    match first {
+        Some(first) => is_idle(first, short),
+        None => false,
+    }
+}
+
 /// Whether the session has a first counter, and nothing of what is missing of it is left after the first counters.
-pub(crate) fn is_idle(first: &Bounds<'_>, short: &Shortfall) -> bool
+fn is_idle(first: &Bounds<'_>, short: &Shortfall) -> bool
     ensures { result ≡ is_idle first.now (shortfall_left first.now short.now) }
 {
     first.has_session(&short.session) && has_nothing_left(first, short)

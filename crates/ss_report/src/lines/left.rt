@@ -1,16 +1,17 @@
-//! The walk through what is left of a session and of what is missing of it, where a night begins at counters.
+//! The walk through what is left of a session and of what is missing of it, if a night begins at counters, or through
+//! all of them.
 ghost use Rattle.std.specs.Prelude.{◌≡◌, ◌++◌, ◌∷◌, [], map, flat_map, filter_map};
-ghost use Rattle.ss_between.specs.Between.{entry_left, group_left, own_tail_left, run_left, session_left};
-ghost use Rattle.ss_between.specs.Between.{shortfall_left, tail_left};
+ghost use Rattle.ss_between.specs.Between.{entry_left, run_left, tail_left};
 ghost use Rattle.ss_report.specs.lines.Taken.{TakesAll};
-ghost use Rattle.ss_report.specs.lines.Lines.{entry_line, group_lines, session_lines};
+ghost use Rattle.ss_report.specs.lines.Lines.{entry_line, group_lines, seen, session_lines};
+ghost use Rattle.ss_report.specs.lines.Between.{gbc_from, group_from, number_from, session_from, shortfall_from};
+ghost use Rattle.ss_report.specs.lines.Between.{tail_from};
 ghost use Rattle.ss_report.specs.lines.Whole.{missing_line, shortfall_lines, tail_line};
 
 use crate::lines::detail::Detail;
 use crate::lines::line::Line;
 use crate::lines::tally::Tally;
 use crate::lines::visitor::LineVisitor;
-use crate::lines::walk::line_of_entry;
 use ss_between::{Bounds, entry_left, run_left, tail_left};
 use ss_block::{Group, Session};
 use ss_review::{Entry, GroupReport, GroupTail, MissingRun, SessionReport, Shortfall};
@@ -20,11 +21,11 @@ pub(crate) fn walk_session_left<S, V: LineVisitor<S>>(
     visitor: &V,
     into: &mut S,
     report: &SessionReport,
-    first: &Bounds<'_>,
+    first: &Option<Bounds<'_>>,
     detail: Detail,
 )
     ensures { TakesAll (V.takes visitor.now) into.old into.new
-        (session_lines detail (session_left first.now report.now)) }
+        (session_lines detail (session_from first.now report.now)) }
 {
     let session = &report.session;
     let state = report.state;
@@ -45,11 +46,11 @@ fn walk_groups_left<S, V: LineVisitor<S>>(
     into: &mut S,
     session: &Session,
     groups: &[GroupReport],
-    first: &Bounds<'_>,
+    first: &Option<Bounds<'_>>,
     detail: Detail,
 )
     ensures { TakesAll (V.takes visitor.now) into.old into.new
-        (flat_map (λ g. group_lines detail session.now (group_left first.now session.now g)) groups.now) }
+        (flat_map (λ g. group_lines detail session.now (group_from first.now session.now g)) groups.now) }
 {
     for group in groups {
         walk_group_left(visitor, into, session, group, first, detail);
@@ -62,14 +63,14 @@ fn walk_group_left<S, V: LineVisitor<S>>(
     into: &mut S,
     session: &Session,
     report: &GroupReport,
-    first: &Bounds<'_>,
+    first: &Option<Bounds<'_>>,
     detail: Detail,
 )
     ensures { TakesAll (V.takes visitor.now) into.old into.new
-        (group_lines detail session.now (group_left first.now session.now report.now)) }
+        (group_lines detail session.now (group_from first.now session.now report.now)) }
 {
     let group = report.group;
-    let number = first.number(session, group);
+    let number = number_from(first, session, group);
     let entries = report.entries.as_slice();
     match detail {
         Detail::Itemized => walk_entries_left(visitor, into, session, group, entries, number),
@@ -84,6 +85,26 @@ fn walk_group_left<S, V: LineVisitor<S>>(
                 },
             );
         }
+    }
+}
+
+/// The number below which nothing of the group is left: its first counter, or none.
+fn number_from(first: &Option<Bounds<'_>>, session: &Session, group: Group) -> u64
+    ensures { result ≡ number_from first.now session.now group }
+{
+    match first {
+        Some(first) => first.number(session, group),
+        None => 0,
+    }
+}
+
+/// The GBC below which nothing of the session is left: its first counter, or none.
+fn gbc_from(first: &Option<Bounds<'_>>, session: &Session) -> u64
+    ensures { result ≡ gbc_from first.now session.now }
+{
+    match first {
+        Some(first) => first.gbc(session),
+        None => 0,
     }
 }
 
@@ -121,18 +142,44 @@ fn walk_entry_left<S, V: LineVisitor<S>>(
     }
 }
 
+/// The line of an entry.
+fn line_of_entry(session: &Session, group: Group, entry: Entry) -> Line<'_>
+    ensures { seen result ≡ entry_line session.now group entry }
+{
+    match entry {
+        Entry::Listed { number, place } => Line::Ok {
+            session,
+            group,
+            number,
+            place,
+        },
+        Entry::Gap { number, why } => Line::Gap {
+            session,
+            group,
+            number,
+            why,
+        },
+        Entry::Hole { first, last } => Line::Hole {
+            session,
+            group,
+            first,
+            last,
+        },
+    }
+}
+
 /// Hands on what is left of what is missing of a session: of its tails, and then of its signature blocks.
 pub(crate) fn walk_shortfall_left<S, V: LineVisitor<S>>(
     visitor: &V,
     into: &mut S,
     short: &Shortfall,
-    first: &Bounds<'_>,
+    first: &Option<Bounds<'_>>,
 )
     ensures { TakesAll (V.takes visitor.now) into.old into.new
-        (shortfall_lines (shortfall_left first.now short.now)) }
+        (shortfall_lines (shortfall_from first.now short.now)) }
 {
     let session = &short.session;
-    let gbc = first.gbc(session);
+    let gbc = gbc_from(first, session);
     walk_tails_left(visitor, into, session, short.tails.as_slice(), first);
     walk_missing_left(visitor, into, session, short.blocks.as_slice(), gbc);
 }
@@ -143,13 +190,13 @@ fn walk_tails_left<S, V: LineVisitor<S>>(
     into: &mut S,
     session: &Session,
     tails: &[GroupTail],
-    first: &Bounds<'_>,
+    first: &Option<Bounds<'_>>,
 )
     ensures { TakesAll (V.takes visitor.now) into.old into.new
-        (map (tail_line session.now) (filter_map (own_tail_left first.now session.now) tails.now)) }
+        (map (tail_line session.now) (filter_map (tail_from first.now session.now) tails.now)) }
 {
     for tail in tails {
-        let number = first.number(session, tail.group);
+        let number = number_from(first, session, tail.group);
         walk_tail_left(visitor, into, session, *tail, number);
     }
 }

@@ -22,7 +22,8 @@ pub(crate) fn listed_places(alloc: Global, report: &Report) -> Result<Places, No
         failed: false,
     };
     let ending = Ending::undamaged(alloc, Tail::Clean);
-    walk_lines(&Listing, &mut so_far, report, &ending, Detail::Itemized);
+    let each = Detail::Itemized;
+    walk_lines(&Listing, &mut so_far, report, &None, &ending, each);
     let PlacesSoFar { places, failed } = so_far;
     if failed {
         return Err(NoMemory);

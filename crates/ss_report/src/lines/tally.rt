@@ -36,17 +36,6 @@ const NO_TALLY: Tally = Tally {
 };
 
 impl Tally {
-    /// The tally of the entries of a group.
-    pub(crate) fn of(entries: &[Entry]) -> Tally
-        ensures { result ≡ tally entries.now }
-    {
-        let mut so_far = NO_TALLY;
-        for entry in entries {
-            so_far = so_far.with(*entry);
-        }
-        so_far
-    }
-
     /// The tally of the entries of a group, without the numbers of holes below this one.
     pub(crate) fn of_left(number: u64, entries: &[Entry]) -> Tally
         ensures { result ≡ tally (filter_map (entry_left number) entries.now) }

@@ -1,80 +1,55 @@
-//! The walk through a report, line by line.
-ghost use Rattle.std.specs.Prelude.{◌≡◌, ◌++◌, ◌∷◌, [], map, flat_map};
+//! The walk through a report, line by line, with what is missing beside it, if that is reported too.
+ghost use Rattle.std.specs.Prelude.{◌≡◌, flat_map};
+ghost use Rattle.std.specs.List.{zip};
 ghost use Rattle.ss_report.specs.lines.Taken.{TakesAll};
-ghost use Rattle.ss_report.specs.lines.Lines.{UnlistedLine, RefusedLine, EndLine};
-ghost use Rattle.ss_report.specs.lines.Lines.{entry_line, group_lines, session_lines, spoilt_place_line, single_lines};
-ghost use Rattle.ss_report.specs.lines.Lines.{tail_lines, ending_lines, damage_lines, damage_count, damage_line, other_lines, lines, seen};
+ghost use Rattle.ss_report.specs.lines.Lines.{session_lines};
+ghost use Rattle.ss_report.specs.lines.Between.{group_lines_outside, lines_beside, lines_of_absent, lines_of_night};
+ghost use Rattle.ss_report.specs.lines.Between.{lines_outside, missing_lines, sessions_beside};
 
 use crate::lines::detail::Detail;
+use crate::lines::idle::is_idle_from;
+use crate::lines::left::{walk_session_left, walk_shortfall_left};
 use crate::lines::line::Line;
-use crate::lines::tally::Tally;
+use crate::lines::missing::Missing;
+use crate::lines::others::walk_others;
+use crate::lines::outside::{Outside, Side, walk_outside};
 use crate::lines::visitor::LineVisitor;
-use crate::log::ending::{Damage, Ending, octets_of};
-use ss_block::{Group, Session};
-use ss_frame::Tail;
-use ss_review::{Entry, GroupReport, Report, SessionReport, SpoiltPlace};
+use crate::log::ending::Ending;
+use ss_between::Bounds;
+use ss_block::Session;
+use ss_review::{GroupReport, Report, SessionReport, Shortfall};
 
-/// Hands on the lines of a report on a log with this end, in their order. Only the visitor may allocate.
-#[tactic(auto, unfolding(crate::specs::lines::Lines::lines))]
+/// Hands on the lines of a report on a log with this end, in their order, with what is missing beside it, if that is
+/// reported too. Only the visitor may allocate.
 pub(crate) fn walk_lines<S, V: LineVisitor<S>>(
     visitor: &V,
     into: &mut S,
     report: &Report,
+    missing: &Option<Missing<'_>>,
     ending: &Ending,
     detail: Detail,
 )
-    ensures { TakesAll (V.takes visitor.now) into.old into.new (lines detail report.now ending.now) }
+    ensures { TakesAll (V.takes visitor.now) into.old into.new
+        (lines_beside detail report.now missing.now ending.now) }
 {
-    walk_sessions(visitor, into, report.sessions.as_slice(), detail);
+    walk_reported(visitor, into, report.sessions.as_slice(), missing, detail);
     walk_others(visitor, into, report, ending, detail);
 }
 
-/// Hands on the lines that come after those of the sessions.
-#[tactic(auto, unfolding(crate::specs::lines::Lines::other_lines))]
-pub(crate) fn walk_others<S, V: LineVisitor<S>>(
+/// Hands on the lines of the sessions, with what is missing beside them, if that is reported too.
+fn walk_reported<S, V: LineVisitor<S>>(
     visitor: &V,
     into: &mut S,
-    report: &Report,
-    ending: &Ending,
+    sessions: &[SessionReport],
+    missing: &Option<Missing<'_>>,
     detail: Detail,
 )
-    ensures { TakesAll (V.takes visitor.now) into.old into.new (other_lines detail report.now ending.now) }
+    ensures { TakesAll (V.takes visitor.now) into.old into.new (sessions_beside detail missing.now sessions.now) }
 {
-    walk_singles(visitor, into, report, detail);
-    walk_end(visitor, into, ending, report.count, detail);
-}
-
-/// Hands on the lines of single messages, or their counts.
-fn walk_singles<S, V: LineVisitor<S>>(visitor: &V, into: &mut S, report: &Report, detail: Detail)
-    ensures { TakesAll (V.takes visitor.now) into.old into.new (single_lines detail report.now) }
-{
-    match detail {
-        Detail::Itemized => walk_items(visitor, into, report),
-        Detail::Tally => walk_counts(visitor, into, report),
+    match missing {
+        None => walk_sessions(visitor, into, sessions, detail),
+        Some(missing) => walk_missing(visitor, into, sessions, missing, detail),
     }
-}
-
-/// Hands on a line for each unlisted, refused and spoilt message.
-#[tactic(auto, unfolding(crate::specs::lines::Lines::single_lines))]
-fn walk_items<S, V: LineVisitor<S>>(visitor: &V, into: &mut S, report: &Report)
-    ensures { TakesAll (V.takes visitor.now) into.old into.new (single_lines Detail.Itemized report.now) }
-{
-    walk_unlisted(visitor, into, report.unlisted.as_slice());
-    walk_refused(visitor, into, report.refused.as_slice());
-    walk_spoilts(visitor, into, report.spoilt.as_slice());
-}
-
-/// Hands on how many messages are unlisted, refused and spoilt.
-#[tactic(auto, unfolding(crate::specs::lines::Lines::single_lines))]
-fn walk_counts<S, V: LineVisitor<S>>(visitor: &V, into: &mut S, report: &Report)
-    ensures { TakesAll (V.takes visitor.now) into.old into.new (single_lines Detail.Tally report.now) }
-{
-    let unlisted = report.unlisted.as_slice().len() as u64;
-    let refused = report.refused.as_slice().len() as u64;
-    let spoilt = report.spoilt.as_slice().len() as u64;
-    visitor.visit(into, Line::UnlistedCount { count: unlisted });
-    visitor.visit(into, Line::RefusedCount { count: refused });
-    visitor.visit(into, Line::SpoiltCount { count: spoilt });
 }
 
 /// Hands on the lines of the sessions.
@@ -87,216 +62,154 @@ fn walk_sessions<S, V: LineVisitor<S>>(
     ensures { TakesAll (V.takes visitor.now) into.old into.new (flat_map (session_lines detail) sessions.now) }
 {
     for session in sessions {
-        walk_session(visitor, into, session, detail);
+        walk_session_left(visitor, into, session, &None, detail);
     }
 }
 
-/// Hands on the line of a session, and then those of its groups.
-pub(crate) fn walk_session<S, V: LineVisitor<S>>(
+/// Hands on the lines of the sessions, each with those of what is missing of it, and then those of the sessions of which
+/// the log has no block.
+fn walk_missing<S, V: LineVisitor<S>>(
     visitor: &V,
     into: &mut S,
-    report: &SessionReport,
+    sessions: &[SessionReport],
+    missing: &Missing<'_>,
     detail: Detail,
 )
-    ensures { TakesAll (V.takes visitor.now) into.old into.new (session_lines detail report.now) }
+    ensures { TakesAll (V.takes visitor.now) into.old into.new (missing_lines detail missing.now sessions.now) }
 {
-    let session = &report.session;
-    let state = report.state;
-    visitor.visit(into, Line::Session { session, state });
-    walk_groups(visitor, into, session, report.groups.as_slice(), detail);
-}
-
-/// Hands on the lines of the groups of a session.
-fn walk_groups<S, V: LineVisitor<S>>(
-    visitor: &V,
-    into: &mut S,
-    session: &Session,
-    groups: &[GroupReport],
-    detail: Detail,
-)
-    ensures { TakesAll (V.takes visitor.now) into.old into.new (flat_map (group_lines detail session.now) groups.now) }
-{
-    for group in groups {
-        walk_group(visitor, into, session, group, detail);
-    }
-}
-
-/// Hands on the lines of a group, or its counts.
-fn walk_group<S, V: LineVisitor<S>>(
-    visitor: &V,
-    into: &mut S,
-    session: &Session,
-    report: &GroupReport,
-    detail: Detail,
-)
-    ensures { TakesAll (V.takes visitor.now) into.old into.new (group_lines detail session.now report.now) }
-{
-    match detail {
-        Detail::Itemized => walk_entries(visitor, into, session, report),
-        Detail::Tally => walk_tally(visitor, into, session, report),
-    }
-}
-
-/// Hands on the counts of a group.
-fn walk_tally<S, V: LineVisitor<S>>(
-    visitor: &V,
-    into: &mut S,
-    session: &Session,
-    report: &GroupReport,
-)
-    ensures { TakesAll (V.takes visitor.now) into.old into.new (group_lines Detail.Tally session.now report.now) }
-{
-    let group = report.group;
-    let tally = Tally::of(report.entries.as_slice());
-    visitor.visit(
+    let known = missing.short.known.as_slice();
+    walk_nights(visitor, into, sessions, known, missing, detail);
+    walk_absent(
+        visitor,
         into,
-        Line::Tally {
-            session,
-            group,
-            tally,
-        },
+        missing.short.absent.as_slice(),
+        &missing.first,
     );
 }
 
-/// Hands on a line for each entry of a group.
-fn walk_entries<S, V: LineVisitor<S>>(
+/// Hands on the lines of the sessions, each with those of what is missing of it.
+fn walk_nights<S, V: LineVisitor<S>>(
     visitor: &V,
     into: &mut S,
-    session: &Session,
-    report: &GroupReport,
-)
-    ensures { TakesAll (V.takes visitor.now) into.old into.new (group_lines Detail.Itemized session.now report.now) }
-{
-    for entry in report.entries.as_slice() {
-        visitor.visit(into, line_of_entry(session, report.group, *entry));
-    }
-}
-
-/// The line of an entry.
-pub(crate) fn line_of_entry(session: &Session, group: Group, entry: Entry) -> Line<'_>
-    ensures { seen result ≡ entry_line session.now group entry }
-{
-    match entry {
-        Entry::Listed { number, place } => Line::Ok {
-            session,
-            group,
-            number,
-            place,
-        },
-        Entry::Gap { number, why } => Line::Gap {
-            session,
-            group,
-            number,
-            why,
-        },
-        Entry::Hole { first, last } => Line::Hole {
-            session,
-            group,
-            first,
-            last,
-        },
-    }
-}
-
-/// Hands on a line for each unlisted message.
-fn walk_unlisted<S, V: LineVisitor<S>>(visitor: &V, into: &mut S, places: &[u32])
-    ensures { TakesAll (V.takes visitor.now) into.old into.new (map UnlistedLine places.now) }
-{
-    for place in places {
-        visitor.visit(into, Line::Unlisted { place: *place });
-    }
-}
-
-/// Hands on a line for each unverified block.
-fn walk_refused<S, V: LineVisitor<S>>(visitor: &V, into: &mut S, places: &[u32])
-    ensures { TakesAll (V.takes visitor.now) into.old into.new (map RefusedLine places.now) }
-{
-    for place in places {
-        visitor.visit(into, Line::Refused { place: *place });
-    }
-}
-
-/// Hands on a line for each spoilt block.
-fn walk_spoilts<S, V: LineVisitor<S>>(visitor: &V, into: &mut S, spoilts: &[SpoiltPlace])
-    ensures { TakesAll (V.takes visitor.now) into.old into.new (map spoilt_place_line spoilts.now) }
-{
-    for spoilt in spoilts {
-        let place = spoilt.place;
-        let cause = spoilt.cause;
-        visitor.visit(into, Line::Spoilt { place, cause });
-    }
-}
-
-/// Hands on what the log holds beside its messages, and the count of these.
-fn walk_end<S, V: LineVisitor<S>>(
-    visitor: &V,
-    into: &mut S,
-    ending: &Ending,
-    count: u32,
+    sessions: &[SessionReport],
+    known: &[Shortfall],
+    missing: &Missing<'_>,
     detail: Detail,
 )
-    ensures { TakesAll (V.takes visitor.now) into.old into.new (ending_lines detail ending.now ++ EndLine count ∷ []) }
+    ensures { TakesAll (V.takes visitor.now) into.old into.new
+        (flat_map (lines_of_night detail missing.now.first missing.now.second) (zip sessions.now known.now)) }
 {
-    walk_ending(visitor, into, ending, detail);
-    visitor.visit(into, Line::End { count });
-}
-
-/// Hands on what is damaged, and the torn end, if there is one.
-fn walk_ending<S, V: LineVisitor<S>>(visitor: &V, into: &mut S, ending: &Ending, detail: Detail)
-    ensures { TakesAll (V.takes visitor.now) into.old into.new (ending_lines detail ending.now) }
-{
-    walk_damage(visitor, into, ending.damaged.as_slice(), detail);
-    walk_tail(visitor, into, ending.tail);
-}
-
-/// Hands on what is damaged, or how much.
-fn walk_damage<S, V: LineVisitor<S>>(visitor: &V, into: &mut S, damaged: &[Damage], detail: Detail)
-    ensures { TakesAll (V.takes visitor.now) into.old into.new (damage_lines detail damaged.now) }
-{
-    match detail {
-        Detail::Itemized => walk_damaged(visitor, into, damaged),
-        Detail::Tally => walk_damaged_count(visitor, into, damaged),
+    for (session, short) in sessions.iter().zip(known) {
+        walk_night(visitor, into, session, short, missing, detail);
     }
 }
 
-/// Hands on a line for each damaged stretch.
-fn walk_damaged<S, V: LineVisitor<S>>(visitor: &V, into: &mut S, damaged: &[Damage])
-    ensures { TakesAll (V.takes visitor.now) into.old into.new (map damage_line damaged.now) }
+/// Hands on the lines of a session in the night, then those of its numbers outside of it, and then those of what is
+/// missing of it.
+fn walk_night<S, V: LineVisitor<S>>(
+    visitor: &V,
+    into: &mut S,
+    report: &SessionReport,
+    short: &Shortfall,
+    missing: &Missing<'_>,
+    detail: Detail,
+)
+    ensures { TakesAll (V.takes visitor.now) into.old into.new
+        (lines_of_night detail missing.now.first missing.now.second (report.now, short.now)) }
 {
-    for stretch in damaged {
-        let Damage {
-            place,
-            offset,
-            length,
-        } = *stretch;
-        visitor.visit(
-            into,
-            Line::Damaged {
-                place,
-                offset,
-                length,
-            },
-        );
+    walk_session_left(visitor, into, report, &missing.first, detail);
+    walk_side(visitor, into, Side::Early, report, &missing.first);
+    walk_side(visitor, into, Side::Beyond, report, &missing.second);
+    walk_shortfall_left(visitor, into, short, &missing.first);
+}
+
+/// Hands on the lines of the numbers of a session on this side of a night, if there are counters on that side.
+fn walk_side<S, V: LineVisitor<S>>(
+    visitor: &V,
+    into: &mut S,
+    side: Side,
+    report: &SessionReport,
+    counters: &Option<Bounds<'_>>,
+)
+    ensures { TakesAll (V.takes visitor.now) into.old into.new (lines_outside side counters.now report.now) }
+{
+    match counters {
+        Some(counters) => {
+            let groups = report.groups.as_slice();
+            walk_groups_outside(visitor, into, side, &report.session, groups, counters);
+        }
+        None => {}
     }
 }
 
-/// Hands on how many stretches are damaged, if any is.
-fn walk_damaged_count<S, V: LineVisitor<S>>(visitor: &V, into: &mut S, damaged: &[Damage])
-    ensures { TakesAll (V.takes visitor.now) into.old into.new (damage_count damaged.now) }
+/// Hands on the lines of the announced numbers of these groups on this side of a night, with these counters there.
+fn walk_groups_outside<S, V: LineVisitor<S>>(
+    visitor: &V,
+    into: &mut S,
+    side: Side,
+    session: &Session,
+    groups: &[GroupReport],
+    counters: &Bounds<'_>,
+)
+    ensures { TakesAll (V.takes visitor.now) into.old into.new
+        (flat_map (group_lines_outside side counters.now session.now) groups.now) }
 {
-    let count = damaged.len() as u64;
-    if count != 0 {
-        let octets = octets_of(damaged);
-        visitor.visit(into, Line::DamagedCount { count, octets });
+    for group in groups {
+        walk_group_outside(visitor, into, side, session, group, counters);
     }
 }
 
-/// Hands on the line of a torn end, if the log has one.
-fn walk_tail<S, V: LineVisitor<S>>(visitor: &V, into: &mut S, tail: Tail)
-    ensures { TakesAll (V.takes visitor.now) into.old into.new (tail_lines tail) }
+/// Hands on the lines of the announced numbers of a group on this side of a night, with these counters there.
+fn walk_group_outside<S, V: LineVisitor<S>>(
+    visitor: &V,
+    into: &mut S,
+    side: Side,
+    session: &Session,
+    report: &GroupReport,
+    counters: &Bounds<'_>,
+)
+    ensures { TakesAll (V.takes visitor.now) into.old into.new
+        (group_lines_outside side counters.now session.now report.now) }
 {
-    match tail {
-        Tail::Clean => {}
-        Tail::Torn { pos } => visitor.visit(into, Line::Torn { offset: pos }),
+    let group = report.group;
+    let counter = counters.number(session, group);
+    let outside = Outside {
+        side,
+        session,
+        group,
+        counter,
+    };
+    walk_outside(visitor, into, outside, report.entries.as_slice());
+}
+
+/// Hands on the lines of the sessions of which the log has no block, without those that sent nothing in the night.
+fn walk_absent<S, V: LineVisitor<S>>(
+    visitor: &V,
+    into: &mut S,
+    absent: &[Shortfall],
+    first: &Option<Bounds<'_>>,
+)
+    ensures { TakesAll (V.takes visitor.now) into.old into.new
+        (flat_map (lines_of_absent first.now) absent.now) }
+{
+    for short in absent {
+        walk_absent_session(visitor, into, short, first);
     }
+}
+
+/// Hands on that the session is absent, and then what is missing of it, unless it sent nothing in the night.
+fn walk_absent_session<S, V: LineVisitor<S>>(
+    visitor: &V,
+    into: &mut S,
+    short: &Shortfall,
+    first: &Option<Bounds<'_>>,
+)
+    ensures { TakesAll (V.takes visitor.now) into.old into.new (lines_of_absent first.now short.now) }
+{
+    if is_idle_from(first, short) {
+        return;
+    }
+    let session = &short.session;
+    visitor.visit(into, Line::Absent { session });
+    walk_shortfall_left(visitor, into, short, first);
 }

@@ -1,16 +1,12 @@
 //! Whether a run over a log found anything.
 ghost use Rattle.std.specs.Prelude.{◌≡◌};
-ghost use Rattle.ss_report.specs.Verdict.{end_verdict, is_clean_tail, report_verdict, verdict_of};
-ghost use Rattle.ss_report.specs.lines.Whole.{verdict_with};
-ghost use Rattle.ss_report.specs.lines.Between.{verdict_between};
+ghost use Rattle.ss_report.specs.Verdict.{end_verdict, is_clean_tail, lines_verdict, verdict_of};
+ghost use Rattle.ss_report.specs.lines.Between.{lines_beside};
 
 use crate::lines::detail::Detail;
-use crate::lines::night::Night;
+use crate::lines::missing::Missing;
 use crate::lines::settled::Settling;
 use crate::lines::walk::walk_lines;
-use crate::lines::walk_between::walk_lines_between;
-use crate::lines::walk_whole::walk_lines_with;
-use crate::lines::whole::WholeReport;
 use crate::log::ending::Ending;
 use ss_frame::Tail;
 use ss_review::Report;
@@ -43,32 +39,18 @@ fn is_clean_tail(tail: Tail) -> bool
     }
 }
 
-/// Whether no line of a report on a log with this ending leaves anything to look into.
-pub(crate) fn report_verdict(report: &Report, ending: &Ending) -> Verdict
-    ensures { result ≡ report_verdict report.now ending.now }
+/// Whether no line of a report on a log with this ending leaves anything to look into, and none of what is missing
+/// beside it, if that is reported too.
+pub(crate) fn report_verdict(
+    report: &Report,
+    missing: &Option<Missing<'_>>,
+    ending: &Ending,
+) -> Verdict
+    ensures { result ≡ lines_verdict (lines_beside Detail.Itemized report.now missing.now ending.now) }
 {
     let mut settled = true;
-    walk_lines(&Settling, &mut settled, report, ending, Detail::Itemized);
-    verdict_of(settled)
-}
-
-/// Whether no line of a report, and of what is missing beside it, leaves anything to look into.
-pub(crate) fn verdict_with(whole: &WholeReport) -> Verdict
-    ensures { result ≡ verdict_with whole.now.report whole.now.short whole.now.ending }
-{
-    let mut settled = true;
-    walk_lines_with(&Settling, &mut settled, whole, Detail::Itemized);
-    verdict_of(settled)
-}
-
-/// Whether no line of a report, and of what is missing beside it, leaves anything to look into between the counters of a
-/// night.
-pub(crate) fn verdict_between(whole: &WholeReport, night: &Night<'_>) -> Verdict
-    ensures { result
-        ≡ verdict_between night.now.first night.now.second whole.now.report whole.now.short whole.now.ending }
-{
-    let mut settled = true;
-    walk_lines_between(&Settling, &mut settled, whole, night, Detail::Itemized);
+    let each = Detail::Itemized;
+    walk_lines(&Settling, &mut settled, report, missing, ending, each);
     verdict_of(settled)
 }
 

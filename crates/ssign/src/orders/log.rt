@@ -1,10 +1,10 @@
 //! A command over a stored log.
 ghost use Rattle.std.specs.Prelude.{◌≡◌, ◌≢◌, false, true, IfOk, IfErr};
 ghost use Rattle.ss_frame.specs.Watched.{has_failed, source_of, sink_of};
-ghost use Rattle.ss_report.specs.runs.Run.{Runs, Stops};
+ghost use Rattle.ss_report.specs.runs.Run.{Runs, Stops, given};
 ghost use Rattle.ssign.specs.LogOrder.{EndsLog, said_by};
 ghost use Rattle.ssign.specs.Refusal.{is_before_run, is_failed_write};
-ghost use Rattle.ssign.specs.Task.{given, job_of};
+ghost use Rattle.ssign.specs.Task.{job_of};
 
 use crate::command_line::{
     answers_file, counters_file, from_file, limits_of, pinned_file, reading_of, reporting_of,

@@ -1,10 +1,10 @@
 use Rattle.std.proofs.Common.{ap, ◌∙◌}
 use Rattle.ss_report.specs.declared.lines.detail.Detail.TheVariants as details
-use Rattle.ss_report.specs.lines.Lines.{lines}
+use Rattle.ss_report.specs.lines.Between.{lines_beside}
 use Rattle.ss_report.specs.Verdict.{verdict_of}
 use Rattle.ss_report.proofs.of_reports.TakenLines.{all_settled}
 use Rattle.ss_report.proofs.verdict.verdict.report_verdict.Goals as goal
 
 pub returns : goal.returns
 returns c =
-    c.verdict_of.ensures ∙ ap verdict_of (all_settled _ (lines details.Itemized c.args.report.now c.args.ending.now) c.walk_lines.ensures)
+    c.verdict_of.ensures ∙ ap verdict_of (all_settled _ (lines_beside details.Itemized c.args.report.now c.args.missing.now c.args.ending.now) c.walk_lines.ensures)

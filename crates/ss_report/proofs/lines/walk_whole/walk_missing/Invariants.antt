@@ -1,7 +1,0 @@
-use Rattle.std.proofs.Common.{take, map}
-use Rattle.ss_report.specs.lines.Taken.{TakesAll}
-use Rattle.ss_report.specs.lines.Whole.{missing_line}
-use Rattle.ss_report.proofs.lines.walk_whole.walk_missing.Given as goal
-
-abbrev pub invariant-loop-run : goal.invariant-loop-run
-invariant-loop-run g l = TakesAll (g.V.LineVisitor.takes l.visitor) l.initial.into l.into (map (missing_line l.session) (take l.run-index l.runs))

@@ -1,8 +1,0 @@
-use Rattle.std.proofs.Common.{length, take, flat_map}
-use Rattle.std.specs.List.{zip}
-use Rattle.ss_report.specs.lines.Taken.{TakesAll}
-use Rattle.ss_report.specs.lines.Whole.{lines_beside}
-use Rattle.ss_report.proofs.lines.walk_whole.walk_sessions.Given as goal
-
-abbrev pub invariant-loop-session : goal.invariant-loop-session
-invariant-loop-session g l = TakesAll (g.V.LineVisitor.takes l.visitor) l.initial.into l.into (flat_map (lines_beside l.detail) (take (length l.yielded) (zip l.sessions l.known)))

@@ -1,7 +1,0 @@
-use Rattle.std.proofs.Common.{take, map}
-use Rattle.ss_report.specs.lines.Taken.{TakesAll}
-use Rattle.ss_report.specs.lines.Whole.{tail_line}
-use Rattle.ss_report.proofs.lines.walk_whole.walk_tails.Given as goal
-
-abbrev pub invariant-loop-tail : goal.invariant-loop-tail
-invariant-loop-tail g l = TakesAll (g.V.LineVisitor.takes l.visitor) l.initial.into l.into (map (tail_line l.session) (take l.tail-index l.tails))
