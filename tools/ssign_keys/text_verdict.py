@@ -13,11 +13,11 @@ from .damage import Damaged
 from .frames import LENGTH, frame_at
 from .identity import identity_lines
 from .logs import Log
+from .longest import NAMED, Weighed, numbers_words, whose
 from .pairs import Neighbour, Stretch
 from .reach import Reached
 from .report import Group
 from .reviewed import Reviewed
-from .stretch_visitor import StretchVisitor
 from .finder import most_shown
 from .summaries import FEW, Few, Runs
 from .verdict import sentence
@@ -69,13 +69,6 @@ def group_words(sg: int, spri: int) -> str:
     """A group, with the messages that belong to it (RFC 5848, section 4.2.3)."""
     members = ("all messages", f"messages of PRI {spri}", f"messages of a range up to PRI {spri}", "by private arrangement")
     return f"SG {sg}, SPRI {spri} ({members[sg] if sg < len(members) else 'no group of the RFC'})"
-
-
-def numbers_words(first: int, last: int) -> str:
-    """A run of numbers with its length."""
-    if first == last:
-        return f"number {first}"
-    return f"numbers {first} to {last} ({last - first + 1:,} messages)"
 
 
 def blocks_words(first: int, last: int) -> str:
@@ -131,6 +124,12 @@ def times_words(first: Optional[str], last: Optional[str]) -> str:
     return f"listed messages: {span}, by their sender's own clock"
 
 
+def order_words(group: Group) -> str:
+    """In how far the order isn't that of the numbers."""
+    stand = grouped(group.out_of_order, "listed message stands", "listed messages stand")
+    return f"{stand} in front of the one with the number before, first number {group.first_out_of_order}"
+
+
 def stamp_words(stamp: Optional[str]) -> str:
     """The TIMESTAMP of a message."""
     return "which states no time" if stamp in (None, "-") else f"of {stamp}"
@@ -172,12 +171,12 @@ def after_words(log: Log, it: Damaged) -> str:
     return f"{where}, {'is' if it.length == 1 else 'are'} no message{long}"
 
 
-class TextVerdict(StretchVisitor):
+class TextVerdict(Weighed):
     """Writes for a person, into a passing file, as the report is read."""
 
     def __init__(self, out: BinaryIO, reviewed: Reviewed, only_findings: bool, is_detailed: bool = False) -> None:
         """Shows what was checked, and the times, where it is to be detailed."""
-        super().__init__(reviewed.survey)
+        super().__init__(reviewed.survey, NAMED)
         self._out = out
         self._reviewed = reviewed
         self._only_findings = only_findings
@@ -244,12 +243,14 @@ class TextVerdict(StretchVisitor):
 
     def outside(self, session: Session, sg: int, spri: int, first: int, last: int, is_early: bool) -> None:
         """Shows announced numbers that don't belong to the night."""
+        super().outside(session, sg, spri, first, last, is_early)
         if self._outside.takes(last - first + 1):
             self._need_session()
             self._put(f"  {outside_words(is_early)}: {group_words(sg, spri)}, {numbers_words(first, last)}")
 
     def tail_after(self, session: Session, sg: int, spri: int, first: int, last: int, before: Optional[Neighbour]) -> None:
         """Shows what is missing up to a counter."""
+        super().tail_after(session, sg, spri, first, last, before)
         if not self._tails.takes(last - first + 1):
             return
         self._need_session()
@@ -259,6 +260,7 @@ class TextVerdict(StretchVisitor):
 
     def missing_blocks(self, session: Session, first: int, last: int) -> None:
         """Shows which signature blocks are missing."""
+        super().missing_blocks(session, first, last)
         if self._blocks.takes(last - first + 1):
             self._need_session()
             self._put(f"  {blocks_words(first, last)}")
@@ -293,6 +295,7 @@ class TextVerdict(StretchVisitor):
 
     def stretch(self, group: Group, stretch: Stretch) -> None:
         """Shows numbers that are missing, disputed or unannounced."""
+        super().stretch(group, stretch)
         if stretch.kind == "lost":
             self._show_missing(group, stretch)
         elif stretch.kind == "hole":
@@ -354,8 +357,7 @@ class TextVerdict(StretchVisitor):
             (group.lost, "missing"), (group.disputed, "disputed"), (group.unannounced, "unannounced")) if count)
         self._put(f"    numbers {group.first} to {group.last}: {group.listed:,} listed{counts}")
         if group.out_of_order:
-            stand = grouped(group.out_of_order, "listed message stands", "listed messages stand")
-            self._put(f"    order: {stand} in front of the one with the number before, first number {group.first_out_of_order}")
+            self._put(f"    order: {order_words(group)}")
         elif group.listed > 1 and not self._only_findings:
             self._put("    order: the places of the listed messages rise with their numbers")
 
@@ -363,6 +365,7 @@ class TextVerdict(StretchVisitor):
 
     def stray(self, kind: str, place: int, cause: str) -> None:
         """Shows the first few messages of a kind, and keeps the places of the others."""
+        super().stray(kind, place, cause)
         if self._kind != kind:
             self._end_list()
             self._kind, self._shown, self._runs = kind, 0, Runs()
@@ -417,6 +420,7 @@ class TextVerdict(StretchVisitor):
 
     def end(self, count: int) -> None:
         """Shows how many messages there are of each kind."""
+        super().end(count)
         self._end_lists()
         totals = self.totals
         kinds = [grouped(totals.unlisted, "unlisted", "unlisted"), grouped(totals.refused, "unverified block"),
@@ -440,9 +444,8 @@ class TextVerdict(StretchVisitor):
         for place in sorted(texts):
             texts[place] = self._text(place, "unlisted")
         for it in self._pairs:
-            session = " ".join(map(shown, it.group.session))
-            self._put(f"  missing {numbers_words(it.first, it.last)} of {session}, SG {it.group.sg}, SPRI {it.group.spri}: "
-                      f"{neighbours_words(it.stretch)}")
+            group = whose(it.group.session, it.group.sg, it.group.spri)
+            self._put(f"  missing {numbers_words(it.first, it.last)} of {group}: {neighbours_words(it.stretch)}")
             for place in it.places:
                 self._put(f"    likely {place_words(self._reviewed.log, place)}{texts[place]}")
             for damaged in it.stretch.damaged:
@@ -453,14 +456,25 @@ class TextVerdict(StretchVisitor):
     # ---- the verdict
 
     def verdict(self) -> bytes:
-        """Shows how far the log goes, and the verdict. Gives what has to stand in front: the verdict of a long text, and
-        what was checked."""
+        """Shows how far the log goes, and the verdict. Gives what has to stand in front: of a long text, or where a list of runs
+        was cut, the verdict and the longest runs; and what was checked."""
         self._put_reach()
         said = f"Verdict: {sentence(self._reviewed.facts)}"
         self._put(said)
         checked = self._details.checked.lines() if self._details is not None else []
-        front = [said, *checked] if self.lines + len(checked) > LONG else checked
+        is_cut = any(it.entries > FEW for it in self.runs.values())
+        front = [said, *self._longest(), *checked] if is_cut or self.lines + len(checked) > LONG else checked
         return "".join(f"{it}\n" for it in front).encode("utf-8", "backslashreplace")
+
+    def _longest(self) -> List[str]:
+        """The longest runs of each kind, whatever stands before them in their lists."""
+        lines = []
+        for kind, runs in self.runs.items():
+            lines += [f"  {kind}: {it.words(self.has_one_group)}{self._between(it.stretch.before, it.stretch.behind)}"
+                      for it in runs.longest()]
+            if runs.entries > NAMED:
+                lines.append(f"  and {runs.entries - NAMED:,} more, none of them longer")
+        return ["The longest runs of each kind:", *lines] if lines else []
 
     def _put_reach(self) -> None:
         reach = self._reviewed.survey.reach
@@ -475,7 +489,6 @@ class TextVerdict(StretchVisitor):
             if number == FEW:
                 self._put(f"  and {grouped(len(reach) - FEW, 'more group')}")
                 break
-            host, app, procid, rsid = map(shown, it.session)
             further = "" if self.counters is None else f"; {counters_words(it)}"
-            self._put(f"  session {host} {app} {procid} {rsid}, SG {it.sg}, SPRI {it.spri}: {reach_words(it)}{further}")
+            self._put(f"  session {whose(it.session, it.sg, it.spri)}: {reach_words(it)}{further}")
         self._put(f"Whether anything sent later is missing, this log{' and these counters' if both else ''} can't show.")
