@@ -322,16 +322,11 @@ def check_same(objects: List[Dict[str, Any]], page: Node) -> None:
     word = "Clean" if verdict["status"] == 0 else "Findings" if verdict["listed"] else "Nothing is shown"
     box = page.one("div", "id", "verdict")
     assert next(box.all("strong")).text()[2:] == word and box.attributes["class"] == f"verdict {'bad' if verdict['status'] else 'good'}"
-    names = {"missing_up_to_counters": "missing up to the counters", "missing_blocks": "missing blocks"}
-    keys = ("listed", "missing", "disputed", "unannounced", "early", "beyond", *names, "unlisted", "verified", "unverified", "spoilt",
-            "damaged")
-    assert {row[0]: row[1] for row in cells(page.one("table", "id", "counts"))} == \
-        {names.get(it, it): f"{verdict[it]:,}" for it in keys if it in verdict}
     rows = told_apart(objects)
     check_leads(rows, box, objects)
     for kind, its in rows.items():
         check_kind(kind, its, page, len(checked["files"]) == 1)
-    assert {it.attributes["id"].replace("-", " ") for it in page.all("table")} - {"counts", "sessions", "sessions more"} == {
+    assert {it.attributes["id"].replace("-", " ") for it in page.all("table")} - {"sessions", "sessions more"} == {
         name for it, its in rows.items() for name in (it.replace("-", " "), f"{it} more") if name == it or len(its) > TOP}
     check_files(checked, page)
     check_sessions(objects, rows, page)
@@ -502,10 +497,8 @@ def check_strip(picture: Node, kinds: List[str], damaged: List[int]) -> bool:
             else:
                 assert (heights[at] == 0) == (count == 0), (kind, at, count)
                 assert heights[at] <= 0 or abs(heights[at] - max(5, 40 * count / len(some))) < 0.1, (kind, at, heights[at], count)
-    words = {"verified": ("verified block", "verified blocks"), "unverified": ("unverified block", "unverified blocks"),
-             "spoilt": ("spoilt block", "spoilt blocks"), "damaged": ("damaged stretch", "damaged stretches")}
     all_kinds = [*kinds, *["damaged"] * len(damaged)]
-    counts = [grouped(all_kinds.count(it), *words.get(it, (it, it))) for it in DRAWN if it in all_kinds]
+    counts = [f"{all_kinds.count(it):,} {it}" for it in DRAWN if it in all_kinds]
     assert picture.attributes["aria-label"].partition(": ")[2] == ", ".join(counts), (picture.attributes, counts)
     return bool(set(all_kinds) - {"listed", "verified"})
 

@@ -14,7 +14,7 @@ from .blocks import Session
 from .pairs import Neighbour, Stretch
 from .report import Group
 from .stretch_visitor import StretchVisitor
-from .words import shown
+from .words import grouped, shown
 
 It = TypeVar("It")
 # how many runs of a kind are always named
@@ -22,45 +22,41 @@ NAMED = 3
 
 
 class Kind(NamedTuple):
-    """How a kind of finding is counted, and what it means."""
+    """A kind of finding: what is counted, how it is, and what that means."""
 
-    one: str
-    many: str
+    noun: str
+    state: str
     meaning: str
+
+    def counted(self, count: int, other: str = "") -> str:
+        """A sentence with its count."""
+        return f"{grouped(count, other + self.noun)} {'is' if count == 1 else 'are'} {self.state}"
 
 
 # in the order in which they are shown
 KINDS: Dict[str, Kind] = {
-    "missing": Kind("announced message is missing", "announced messages are missing",
-                    "announced, and no stored message is listed: it was taken out, or never came"),
-    "changed or replaced": Kind("missing message was likely changed or replaced",
-                                "missing messages were likely changed or replaced",
-                                "missing, and as many unlisted messages stand between the same neighbours; a hash can't show its "
-                                "message, so this is no more than likely"),
-    "missing up to the counters": Kind("message up to the counters is missing or unlisted",
-                                       "messages up to the counters are missing or unlisted",
-                                       "by the counters it was sent, and no verified block announces it or a later number"),
-    "unlisted": Kind("stored message is unlisted", "stored messages are unlisted",
-                     "stored, and no number lists it: no verified block announces it, or it is a copy too many"),
-    "unannounced": Kind("number is unannounced", "numbers are unannounced",
-                        "the block for it is missing or unverified; an unlisted message between the same neighbours may be its own"),
-    "missing blocks": Kind("signature block is missing or unverified", "signature blocks are missing or unverified",
-                           "messages that they announced may be missing without another line saying so"),
-    "disputed": Kind("number is disputed", "numbers are disputed", "verified blocks announce two different messages"),
-    "early": Kind("number is early", "numbers are early", "announced, and below the counters that the night begins with"),
-    "beyond": Kind("number is beyond the night", "numbers are beyond the night",
-                   "announced, and not below the counters that the night ends with"),
-    "out of order": Kind("group is out of order", "groups are out of order",
-                         "listed messages don't stand in the order of their numbers"),
-    "damaged": Kind("stretch of the log is damaged", "stretches of the log are damaged", "octets that are no message"),
-    "torn": Kind("file breaks off", "files break off", "the log breaks off in a message"),
-    "manifest": Kind("difference from the manifest", "differences from the manifest", "a log isn't as its entry says"),
-    "not joined": Kind("session isn't joined", "sessions aren't joined", "its signatures were ignored"),
-    "SHA-1": Kind("session rests on SHA-1", "sessions rest on SHA-1", "two texts with one hash can be made"),
-    "unverified": Kind("block is unverified", "blocks are unverified", "nothing that it announces is used"),
-    "strangers": Kind("joined session has unverified blocks", "joined sessions have unverified blocks",
-                      "blocks claim it, and aren't validly signed"),
-    "spoilt": Kind("message is a spoilt block", "messages are spoilt blocks", "it has a block's element, and is no block"),
+    "missing": Kind("announced message", "missing", "no stored message is listed for it: it was taken out, or never came"),
+    "changed or replaced": Kind("missing message", "likely changed or replaced", "as many unlisted messages stand between the same "
+                                "neighbours; a hash can't show its message, so this is no more than likely"),
+    "missing up to the counters": Kind("message", "missing or unlisted, by the counters", "no verified block announces it or a "
+                                       "later number"),
+    "unlisted": Kind("stored message", "unlisted", "no verified block announces it, or it is a copy too many"),
+    "unannounced": Kind("number", "unannounced", "the block for it is missing or unverified; an unlisted message between the same "
+                        "neighbours may be its own"),
+    "missing blocks": Kind("signature block", "missing or unverified", "messages that it announced may be missing without another "
+                           "line saying so"),
+    "disputed": Kind("number", "disputed", "verified blocks announce two different messages for it"),
+    "early": Kind("number", "early", "announced, and below the counters that the night begins with"),
+    "beyond": Kind("number", "beyond the night", "announced, and not below the counters that the night ends with"),
+    "out of order": Kind("group", "out of order", "listed messages don't stand in the order of their numbers"),
+    "damaged": Kind("part", "damaged", "octets of the log that are no message"),
+    "torn": Kind("log", "torn", "it breaks off in a message"),
+    "manifest": Kind("difference", "found by the manifest", "a log isn't as its entry says"),
+    "not joined": Kind("session", "not joined", "its signatures were ignored"),
+    "SHA-1": Kind("session", "based on SHA-1", "two texts with one hash can be made"),
+    "unverified": Kind("block", "unverified", "nothing that it announces is used"),
+    "strangers": Kind("joined session", "claimed by unverified blocks", "they aren't validly signed"),
+    "spoilt": Kind("message", "spoilt", "it has a block's element, and is no block"),
 }
 # the kinds of numbers that aren't listed, and of stored messages, by the words of a report
 STRETCHES = {"lost": "missing", "hole": "unannounced", "disputed": "disputed"}
@@ -202,6 +198,6 @@ def short(session: Session) -> str:
     return " ".join(map(shown, session))
 
 
-def whose(session: Session, sg: int, spri: int) -> str:
+def whose(session: Optional[Session], sg: int, spri: int) -> str:
     """A session and its group."""
-    return f"{short(session)}, SG {sg}, SPRI {spri}"
+    return f"{short(session)}, SG {sg}, SPRI {spri}" if session else "the log"

@@ -5,7 +5,7 @@ from the longest on. How long a page can get depends on its limits alone, not on
 """
 from __future__ import annotations
 
-from typing import BinaryIO, Dict, Iterator, List, NamedTuple, Optional, Sequence, Tuple
+from typing import BinaryIO, Dict, Iterator, List, Sequence, Tuple
 
 from . import sha1
 from . import strangers
@@ -16,7 +16,7 @@ from .identity import identity_lines
 from .longest import KINDS, NAMED, STRAYS, Longest, Run, Weighed, short, whose
 from .markup import Child, Markup, code, element, folded, joined, legend, listing, named, plain, swatch
 from .page_frame import front_of, write_page
-from .page_parts import (checked_part, counts_part, cut, cut_table, foot, limits_part, repeat_part, verdict_part,
+from .page_parts import (checked_part, cut, cut_table, foot, limits_part, repeat_part, verdict_part,
                          with_part)
 from .pairs import Stretch
 from .report import Group
@@ -36,20 +36,6 @@ HEADS = ("Where", "Between", "Text, or what it means")
 MOST_TEXT, SHORT_TEXT = 300000, 120
 
 
-class Drawn(NamedTuple):
-    """A group of a joined session, or all places, with its strip."""
-
-    session: Optional[Session]
-    sg: int
-    spri: int
-    strip: Strip
-
-    def picture(self, title: str, unit: str, runs: Dict[str, Longest[Run]]) -> Markup:
-        """The strip, with words at the longest runs that are wide enough to be seen."""
-        return self.strip.picture(title, unit, [(it.stretch.length, it.stretch.first, kind) for kind in DRAWN if kind in runs
-                                                for it in runs[kind].longest() if it[:3] == self[:3]])
-
-
 class Page(Weighed):
     """Collects what a page has, as the report is read."""
 
@@ -65,13 +51,13 @@ class Page(Weighed):
         self._session = Session(b"", b"", b"", b"")
         # what is known of the present session, where it is joined
         self._known: List[str] = []
-        self._groups: Dict[Tuple[int, int], Drawn] = {}
+        self._groups: Dict[Tuple[int, int], Strip] = {}
         self._sessions: Longest[List[Child]] = Longest(MOST_SESSIONS)
-        self._strips: Longest[Drawn] = Longest(MOST_STRIPS)
+        self._strips: Longest[Strip] = Longest(MOST_STRIPS)
         # the first and the last number of each group that a line is about
         self._spans = {(it.session, it.sg, it.spri): (it.first, max(it.last, (it.next_number or 1) - 1))
                        for it in reviewed.survey.reach}
-        self._places = Strip(0, reviewed.survey.totals.messages - 1)
+        self._places = Strip((None, -1, -1), 0, reviewed.survey.totals.messages - 1)
         for where, what in other_findings:
             self._add("manifest", named(where), named(what))
 
@@ -120,29 +106,26 @@ class Page(Weighed):
     def begin_group(self, group: Group) -> None:
         """Begins a strip."""
         super().begin_group(group)
-        self._drawn(group.sg, group.spri)
+        self._strip(group.sg, group.spri)
 
-    def _drawn(self, sg: int, spri: int) -> Drawn:
+    def _strip(self, sg: int, spri: int) -> Strip:
         """The strip of a group, which begins with 1, or with the night or an announced number before it."""
         if (sg, spri) not in self._groups:
             first, last = self._spans.get((self._session, sg, spri), (1, 1))
-            if self.begin is None:
-                first = 1
-            else:
-                first = min(first, max(1, self.begin.next_number(self._session, sg, spri) or 1))
-            self._groups[sg, spri] = Drawn(self._session, sg, spri, Strip(first, last))
+            night = 1 if self.begin is None else max(1, self.begin.next_number(self._session, sg, spri) or 1)
+            self._groups[sg, spri] = Strip((self._session, sg, spri), min(first, night), last)
         return self._groups[sg, spri]
 
     def listed(self, group: Group, numbers: Sequence[int], places: Sequence[int]) -> None:
         """Draws listed numbers."""
         super().listed(group, numbers, places)
-        self._drawn(group.sg, group.spri).strip.take(numbers[0], numbers[-1], "listed")
+        self._strip(group.sg, group.spri).take(numbers[0], numbers[-1], "listed")
 
     def taken(self, kind: str, run: Run) -> None:
         """Draws numbers that aren't listed."""
         super().taken(kind, run)
         if run.sg >= 0 and kind not in ("early", "beyond"):
-            self._drawn(run.sg, run.spri).strip.take(run.stretch.first, run.stretch.last, kind)
+            self._strip(run.sg, run.spri).take(run.stretch.first, run.stretch.last, kind)
 
     def end_group(self, group: Group) -> None:
         """Adds a row where the order isn't that of the numbers."""
@@ -155,11 +138,11 @@ class Page(Weighed):
         drawn, self._groups = list(self._groups.values()), {}
         known, self._known = self._known, []
         for it in drawn:
-            self._strips.add(it.strip.found, it)
+            self._strips.add(it.found, it)
         if known:
-            groups = [f"{group_words(it.sg, it.spri)}: {it.strip.text()}" for it in drawn[:FEW]]
+            groups = [f"{group_words(*it.group[1:])}: {it.text()}" for it in drawn[:FEW]]
             groups += [f"and {grouped(len(drawn) - FEW, 'more group')}"] if len(drawn) > FEW else []
-            self._sessions.add(sum(it.strip.found for it in drawn),
+            self._sessions.add(sum(it.found for it in drawn),
                                [named(short(self._session)), listing(*map(named, [*known, *groups]))])
 
     # ---- messages by their places
@@ -212,9 +195,9 @@ class Page(Weighed):
         reviewed, checked = self._reviewed, self._reviewed.detailed().checked
         status = reviewed.facts.status
         word = "Clean" if status == 0 else "Findings" if self.totals.listed else "Nothing is shown"
-        pieces = [verdict_part(reviewed, self.totals, word, self._leads()), checked_part(checked), self._pictures(),
+        pieces = [verdict_part(reviewed, word, self._leads()), checked_part(checked), self._pictures(),
                   *self._findings(), self._sessions_part(), limits_part(reviewed), repeat_part(checked, status),
-                  with_part(checked), counts_part(reviewed, self.totals, self.missing)]
+                  with_part(checked)]
         write_page(out, FRONT, f"{word}: check of a signed log, {checked.time}", pieces, foot(checked))
 
     def _count(self, kind: str) -> int:
@@ -234,19 +217,18 @@ class Page(Weighed):
                 between = self._between(it.stretch, False)
                 ways += ["; " if at else ": ", named(it.words(self.has_one_group)), ", " if between else "", between]
             more = f"; and {grouped(runs.entries - NAMED, 'more run')}" if runs.entries > NAMED else ""
-            yield joined(plain("strong", grouped(count, other + its.one, other + its.many)), *ways, more, ".")
+            yield joined(plain("strong", its.counted(count, other)), *ways, more, ".")
 
     def _pictures(self) -> Markup:
         """The strips: those with findings, or one, and the others folded."""
         strips, count = self._strips.longest(), self.totals.messages
-        titles = [(it, f"{whose(it.session, it.sg, it.spri)}, numbers 1 to {it.strip.last:,}", "number")
-                  for it in strips if it.session is not None]
+        titles = [(it, f"{whose(*it.group)}, numbers 1 to {it.last:,}", "number") for it in strips]
         if count:
-            titles.append((Drawn(None, -1, -1, self._places), f"All stored messages, places 0 to {count - 1:,}", "place"))
-        titles.sort(key=lambda it: not it[0].strip.found)
+            titles.append((self._places, f"All stored messages, places 0 to {count - 1:,}", "place"))
+        titles.sort(key=lambda it: not it[0].found)
         pictures = [it.picture(title, unit, self.runs) for it, title, unit in titles]
-        shown = max(1, min(SHOWN_STRIPS, sum(it.strip.found > 0 for it, _, _ in titles)))
-        kinds = {kind for it, _, _ in titles for kind in it.strip.kinds}
+        shown = max(1, min(SHOWN_STRIPS, sum(it.found > 0 for it, _, _ in titles)))
+        kinds = {kind for it, _, _ in titles for kind in it.kinds}
         key = legend(*(joined(swatch(it.replace(" ", "-")), f"{it}{FINE.get(it, '')}") for it in DRAWN if it in kinds))
         more = [folded(grouped(len(pictures) - shown, "more picture"), *pictures[shown:])] if len(pictures) > shown else []
         return plain("section", plain("h2", "The log in pictures"), *pictures[:shown], *([key] if kinds else []), *more,

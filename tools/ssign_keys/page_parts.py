@@ -1,13 +1,12 @@
 """The parts of a page that don't depend on the lines of a report: the verdict, what was checked, and what isn't covered."""
 from __future__ import annotations
 
-from typing import Iterable, List, Optional, Sequence, Tuple
+from typing import Iterable, List, Sequence
 
 from .checked import Checked, key_words
 from .markup import Child, Markup, element, folded, joined, listing, named, plain, table
 from .longest import whose
 from .options_given import REPEATED_NOT, command_of, quoted
-from .report import Totals
 from .reviewed import Reviewed
 from .summaries import FEW
 from .text_verdict import counters_words, reach_words
@@ -20,9 +19,9 @@ TOP = 12
 MOST_LOGS, MOST_KEYS, MOST_NAME = 300, 100, 60
 
 
-def verdict_part(reviewed: Reviewed, totals: Totals, word: str, leads: Iterable[Child]) -> Markup:
+def verdict_part(reviewed: Reviewed, word: str, leads: Iterable[Child]) -> Markup:
     """The verdict first, with a sentence for each kind of finding."""
-    facts, checked = reviewed.facts, reviewed.detailed().checked
+    facts, totals, checked = reviewed.facts, reviewed.survey.totals, reviewed.detailed().checked
     sign = element("span", {"aria-hidden": "true"}, "✓ " if facts.status == 0 else "✗ ")
     stored = f"The log has {grouped(totals.messages, 'stored message')}" + ("." if totals.torn is None else ", and breaks off.")
     return plain("section", plain("h1", "Check of a signed log"),
@@ -31,21 +30,6 @@ def verdict_part(reviewed: Reviewed, totals: Totals, word: str, leads: Iterable[
                  element("div", {"class": f"verdict {'good' if facts.status == 0 else 'bad'}", "id": "verdict"},
                          plain("strong", sign, word), element("span", {"id": "sentence"}, sentence(facts)),
                          listing(*leads)))
-
-
-def counts_part(reviewed: Reviewed, totals: Totals, missing_blocks: Optional[int]) -> Markup:
-    """The counts of the verdict, by its words."""
-    counts = {"listed": totals.listed, "missing": totals.lost, "disputed": totals.disputed, "unannounced": totals.unannounced}
-    if reviewed.begin is not None:
-        counts.update(early=totals.early, beyond=totals.beyond)
-    if reviewed.counters is not None:
-        counts["missing up to the counters"] = totals.tails
-    if missing_blocks is not None:
-        counts["missing blocks"] = missing_blocks
-    counts.update(unlisted=totals.unlisted, verified=reviewed.survey.verified, unverified=totals.refused, spoilt=totals.spoilt,
-                  damaged=totals.damaged)
-    return folded("Counts of the verdict", table("counts", "By the words of the verdict", ("Word", "Count"),
-                                                 [[name, f"{count:,}"] for name, count in counts.items()]))
 
 
 def cut_table(name: str, caption: str, heads: Sequence[str], rows: Sequence[Sequence[Child]], count: int) -> List[Markup]:

@@ -47,7 +47,7 @@ summary{cursor:pointer;color:var(--dim)}
 table{border-collapse:collapse;width:100%;font-size:.9rem;margin:.4rem 0 1rem}
 caption{text-align:left;padding:.2rem 0}
 th,td{text-align:left;vertical-align:top;padding:.25rem .7rem .25rem 0;border-bottom:1px solid var(--line)}
-td{min-width:4.5rem}
+td,tbody th{min-width:5.5rem}
 thead th{border-bottom:2px solid var(--line)}
 tbody th{font-weight:600}
 code,pre{font-family:ui-monospace,monospace;font-size:.87em}

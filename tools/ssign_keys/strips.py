@@ -2,10 +2,11 @@
 from __future__ import annotations
 
 from array import array
-from typing import Dict, Iterable, List, Sequence, Tuple
+from typing import Dict, Iterable, List, Optional, Sequence, Tuple
 
+from .blocks import Session
+from .longest import Longest, Run
 from .markup import Markup, drawn, element, plain
-from .words import grouped
 
 BINS = 240
 # how wide and high a strip is in its own units: what is found stands on the numbers that are as they were signed
@@ -14,23 +15,19 @@ WIDTH, HEIGHT, BASE = 720, 48, 8
 LEAST, APART = 5, 150
 # how many runs have words, and of what part of the strip each of them is at least
 MOST_MARKS, WIDE = 4, 500
-# the kinds that are drawn, the lowest first, each with the words for one and for many
-DRAWN: Dict[str, Tuple[str, str]] = {
-    "verified": ("verified block", "verified blocks"), "listed": ("listed", "listed"), "missing": ("missing", "missing"),
-    "changed or replaced": ("changed or replaced",) * 2, "missing up to the counters": ("missing up to the counters",) * 2,
-    "disputed": ("disputed", "disputed"), "unannounced": ("unannounced", "unannounced"), "unlisted": ("unlisted", "unlisted"),
-    "unverified": ("unverified block", "unverified blocks"), "spoilt": ("spoilt block", "spoilt blocks"),
-    "damaged": ("damaged stretch", "damaged stretches"),
-}
+# the kinds that are drawn, the lowest first
+DRAWN = ("verified", "listed", "missing", "changed or replaced", "missing up to the counters", "disputed", "unannounced", "unlisted",
+         "unverified", "spoilt", "damaged")
 # those that are as they were signed, and what is said of them besides
 FINE = {"verified": ": a block with a valid signature by the trusted key", "listed": ": stored exactly as it was signed"}
 
 
 class Strip:
-    """Numbers from a first to a last, each of one kind."""
+    """Numbers of a group from a first to a last, each of one kind; or places of the log, without a group."""
 
-    def __init__(self, first: int, last: int) -> None:
+    def __init__(self, group: Tuple[Optional[Session], int, int], first: int, last: int) -> None:
         """Nothing is known of them."""
+        self.group = group
         self.first = first
         self.last = max(first, last)
         self._span = self.last - first + 1
@@ -76,14 +73,15 @@ class Strip:
 
     def text(self) -> str:
         """The counts in words."""
-        return ", ".join(grouped(self.counts[it], *DRAWN[it]) for it in DRAWN if it in self.counts) or "nothing"
+        return ", ".join(f"{self.counts[it]:,} {it}" for it in DRAWN if it in self.counts) or "nothing"
 
-    def picture(self, title: str, unit: str, runs: Iterable[Tuple[int, int, str]]) -> Markup:
-        """The strip with its counts and its ends, and with words at the longest of these runs: lengths, first numbers and kinds."""
+    def picture(self, title: str, unit: str, runs: Dict[str, Longest[Run]]) -> Markup:
+        """The strip with its counts and its ends, and with words at the longest of these runs that can be seen."""
         said = f"{title}: {self.text()}"
         bins = "" if self.size == self._span else f" Each of {self.size} bars stands for about {-(-self._span // self.size):,} {unit}s."
-        wide = sorted((it for it in runs if it[0] * WIDE >= self._span), reverse=True)[:MOST_MARKS]
-        words, height = self._words([(first, grouped(count, *DRAWN[kind])) for count, first, kind in wide])
+        own = sorted(((it.stretch.length, it.stretch.first, kind) for kind in DRAWN if kind in runs for it in runs[kind].longest()
+                      if it[:3] == self.group and it.stretch.length * WIDE >= self._span), reverse=True)
+        words, height = self._words([(first, f"{count:,} {kind}") for count, first, kind in own[:MOST_MARKS]])
         ends = [f"{unit} {self.first:,}", f"{unit} {self.last:,}"] if self._span > 1 else [f"{unit} {self.first:,}"]
         return plain("figure", plain("figcaption", f"{said}.{bins}"),
                      element("svg", {"class": "strip", "viewBox": f"0 0 {WIDTH} {height}", "role": "img", "aria-label": said},

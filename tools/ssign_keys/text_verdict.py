@@ -49,6 +49,22 @@ PAIRS_WITH_DAMAGE = "Likely pairs (missing numbers, and unlisted messages or dam
     "can't show its message)"
 
 
+class Listed(NamedTuple):
+    """A list of runs, of a session or a group: how far its lines are indented, and what is left of it."""
+
+    indent: str
+    what: str
+    noun: str
+
+
+LISTS = {
+    "outside": Listed("  ", "messages before the night or after it", "message"),
+    "tail": Listed("  ", "messages, missing or unlisted by the counters", "message"),
+    "blocks": Listed("  ", "missing signature blocks", "block"), "missing": Listed("    ", "missing numbers", "number"),
+    "disputed": Listed("    ", "disputed numbers", "number"), "unannounced": Listed("    ", "unannounced numbers", "number"),
+}
+
+
 class Pair(NamedTuple):
     """Missing numbers of a group, with their neighbours, and the places of what they likely became."""
 
@@ -191,7 +207,7 @@ class TextVerdict(Weighed):
         self._left: Optional[Few] = None
         self._pairs: List[Pair] = []
         self._pair_count = 0
-        self._begin_lists()
+        self._lists: Dict[str, Few] = {}
         self._kind = ""
         self._shown = 0
         self._runs = Runs()
@@ -200,16 +216,12 @@ class TextVerdict(Weighed):
         put(self._out, line.encode("utf-8", "backslashreplace") + b"\n")
         self.lines += 1
 
-    def _begin_lists(self) -> None:
-        self._missing, self._holes, self._disputed, self._tails, self._blocks = Few(), Few(), Few(), Few(), Few()
-        self._outside = Few()
-
     # ---- sessions
 
     def session(self, session: Session, state: str) -> None:
         """Shows a session that isn't joined, and keeps the heading of another until something follows it."""
         super().session(session, state)
-        self._end_session()
+        self._end_runs()
         self._facts = self._reviewed.notes.of(session)
         self._session_heading = [f"Session: {session_words(session)}", f"  state: {state}; {STATES[state]}"]
         if self._facts is not None:
@@ -241,48 +253,43 @@ class TextVerdict(Weighed):
             self._left.left -= 1
             self._left = None
 
+    def _show(self, name: str, numbers: int, line: str) -> None:
+        """Shows an entry of a list, about so many numbers, unless the list is long."""
+        if self._lists.setdefault(name, Few()).takes(numbers):
+            if LISTS[name].indent == "  ":
+                self._need_session()
+            else:
+                self._need_group()
+            self._put(LISTS[name].indent + line)
+
+    def _end_runs(self) -> None:
+        for name, (indent, what, noun) in LISTS.items():
+            few = self._lists.pop(name, None)
+            if few is not None and few.left:
+                self._put(f"{indent}and {grouped(few.left, 'more run')} of {what} ({grouped(few.left_numbers, noun)})")
+
     def outside(self, session: Session, sg: int, spri: int, first: int, last: int, is_early: bool) -> None:
         """Shows announced numbers that don't belong to the night."""
         super().outside(session, sg, spri, first, last, is_early)
-        if self._outside.takes(last - first + 1):
-            self._need_session()
-            self._put(f"  {outside_words(is_early)}: {group_words(sg, spri)}, {numbers_words(first, last)}")
+        self._show("outside", last - first + 1, f"{outside_words(is_early)}: {group_words(sg, spri)}, {numbers_words(first, last)}")
 
     def tail_after(self, session: Session, sg: int, spri: int, first: int, last: int, before: Optional[Neighbour]) -> None:
         """Shows what is missing up to a counter."""
         super().tail_after(session, sg, spri, first, last, before)
-        if not self._tails.takes(last - first + 1):
-            return
-        self._need_session()
         known = f"announces a number after {first - 1}" if first > 1 else "announces a message of this group"
-        self._put(f"  missing or unlisted, by the counters: {group_words(sg, spri)}, {numbers_words(first, last)}; no "
-                  f"verified block {known}{self._between(before, None)}")
+        self._show("tail", last - first + 1, f"missing or unlisted, by the counters: {group_words(sg, spri)}, "
+                   f"{numbers_words(first, last)}; no verified block {known}{self._between(before, None)}")
 
     def missing_blocks(self, session: Session, first: int, last: int) -> None:
         """Shows which signature blocks are missing."""
         super().missing_blocks(session, first, last)
-        if self._blocks.takes(last - first + 1):
-            self._need_session()
-            self._put(f"  {blocks_words(first, last)}")
-
-    def _end_session(self) -> None:
-        if self._outside.left:
-            self._put(f"  and {grouped(self._outside.left, 'more run')} of messages before the night or after it "
-                      f"({grouped(self._outside.left_numbers, 'message')})")
-        if self._tails.left:
-            self._put(f"  and {grouped(self._tails.left, 'more run')} of messages, missing or unlisted by the counters "
-                      f"({grouped(self._tails.left_numbers, 'message')})")
-        if self._blocks.left:
-            self._put(f"  and {grouped(self._blocks.left, 'more run')} of missing signature blocks "
-                      f"({grouped(self._blocks.left_numbers, 'block')})")
-        self._begin_lists()
+        self._show("blocks", last - first + 1, blocks_words(first, last))
 
     # ---- groups
 
     def begin_group(self, group: Group) -> None:
         """Keeps the heading of a group."""
         super().begin_group(group)
-        self._begin_lists()
         self._group_heading = [f"  group: {group_words(group.sg, group.spri)}"]
         if not self._only_findings:
             self._need_group()
@@ -296,31 +303,15 @@ class TextVerdict(Weighed):
     def stretch(self, group: Group, stretch: Stretch) -> None:
         """Shows numbers that are missing, disputed or unannounced."""
         super().stretch(group, stretch)
+        numbers, between = numbers_words(stretch.first, stretch.last), self._between(stretch.before, stretch.behind)
         if stretch.kind == "lost":
-            self._show_missing(group, stretch)
+            self._show("missing", stretch.length, f"missing: {numbers}{between}")
         elif stretch.kind == "hole":
-            self._show_hole(stretch)
-        else:
-            self._show_disputed(stretch)
-
-    def _show_disputed(self, stretch: Stretch) -> None:
-        for number in range(stretch.first, stretch.last + 1):
-            if self._disputed.takes():
-                self._need_group()
-                self._put(f"    disputed: number {number}; verified blocks announce two different messages for it")
-
-    def _show_hole(self, stretch: Stretch) -> None:
-        if self._holes.takes(stretch.length):
-            self._need_group()
             blocks = "the block for it is" if stretch.length == 1 else "the blocks for them are"
-            self._put(f"    unannounced: {numbers_words(stretch.first, stretch.last)}; {blocks} missing or unverified"
-                      f"{self._between(stretch.before, stretch.behind)}")
-
-    def _show_missing(self, group: Group, stretch: Stretch) -> None:
-        if self._missing.takes(stretch.length):
-            self._need_group()
-            self._put(f"    missing: {numbers_words(stretch.first, stretch.last)}"
-                      f"{self._between(stretch.before, stretch.behind)}")
+            self._show("unannounced", stretch.length, f"unannounced: {numbers}; {blocks} missing or unverified{between}")
+        else:
+            for number in range(stretch.first, stretch.last + 1):
+                self._show("disputed", 1, f"disputed: number {number}; verified blocks announce two different messages for it")
         if not stretch.is_paired:
             return
         self._pair_count += len(stretch.likely) if stretch.is_matched else 1
@@ -343,11 +334,7 @@ class TextVerdict(Weighed):
         super().end_group(group)
         if group.lost or group.disputed or group.unannounced or group.out_of_order:
             self._need_group()
-        for few, what in ((self._missing, "missing"), (self._disputed, "disputed"), (self._holes, "unannounced")):
-            if few.left:
-                self._put(f"    and {grouped(few.left, 'more run')} of {what} numbers "
-                          f"({grouped(few.left_numbers, 'number')})")
-        self._begin_lists()
+        self._end_runs()
         if not self._group_heading:
             self._put_counts(group)
         self._group_heading = []
@@ -386,7 +373,7 @@ class TextVerdict(Weighed):
     def _end_list(self) -> None:
         if not self._kind:
             # the sessions end here
-            self._end_session()
+            self._end_runs()
             self._end_states()
         elif self._runs.count:
             self._put(f"  and {self._runs.count:,} more, at {'place' if self._runs.count == 1 else 'places'} {self._runs}")
