@@ -30,15 +30,16 @@ ALLOWED = {
     "html": {"lang"}, "head": set(), "meta": {"charset", "http-equiv", "content", "name"}, "title": set(), "style": set(),
     "body": set(), "main": set(), "section": set(), "h1": set(), "h2": set(), "p": {"class"}, "details": set(), "summary": set(),
     "div": {"class", "id", "aria-hidden"}, "span": {"class", "id", "aria-hidden"}, "strong": set(), "bdi": set(), "code": set(),
-    "ul": {"class", "id"}, "li": set(), "text": {"x", "y", "text-anchor"}, "pre": {"id", "tabindex"}, "table": {"id", "role"}, "caption": set(), "thead": {"role"},
+    "ul": {"class", "id"}, "li": set(), "text": {"x", "y", "text-anchor"},
+    "pre": {"id", "tabindex"}, "table": {"id", "role"}, "caption": set(), "thead": {"role"},
     "tbody": {"role"}, "tr": {"role"}, "th": {"scope", "role"}, "td": {"role", "data-head"}, "figure": set(), "figcaption": set(),
     "svg": {"class", "viewbox", "role", "aria-label", "aria-hidden"}, "defs": set(),
     "pattern": {"id", "width", "height", "patternunits"}, "path": {"class", "d"}, "rect": {"class", "width", "height"},
 }
 ROWS, NAMED, TOP = 200, 3, 12
 # the kinds that a strip draws, the lowest first
-DRAWN = ("verified", "listed", "missing", "changed or replaced", "missing up to the counters", "disputed", "unannounced", "unlisted",
-         "unverified", "spoilt", "damaged")
+DRAWN = ("verified", "listed", "missing", "changed or replaced", "missing up to the counters", "disputed", "unannounced",
+         "unlisted", "unverified", "spoilt", "damaged")
 KINDS = ("missing", "changed or replaced", "missing up to the counters", "unlisted", "unannounced", "missing blocks", "disputed",
          "early", "beyond", "out of order", "damaged", "torn", "manifest", "not joined", "SHA-1", "unverified", "strangers", "spoilt")
 
@@ -229,7 +230,7 @@ def between(it: Dict[str, Any]) -> str:
     return "; ".join(said) or ("" if it["line"] == "tail" else "no other number of this group is listed")
 
 
-def told_apart(objects: List[Dict[str, Any]]) -> Dict[str, List[Row]]:
+def sorted_rows(objects: List[Dict[str, Any]]) -> Dict[str, List[Row]]:
     """The rows of each kind, each finding in one of them, the longest first."""
     rows: Dict[str, List[Row]] = {it: [] for it in KINDS}
     stored = {it["place"]: it for it in objects if it["line"] == "unlisted"}
@@ -322,7 +323,7 @@ def check_same(objects: List[Dict[str, Any]], page: Node) -> None:
     word = "Clean" if verdict["status"] == 0 else "Findings" if verdict["listed"] else "Nothing is shown"
     box = page.one("div", "id", "verdict")
     assert next(box.all("strong")).text()[2:] == word and box.attributes["class"] == f"verdict {'bad' if verdict['status'] else 'good'}"
-    rows = told_apart(objects)
+    rows = sorted_rows(objects)
     check_leads(rows, box, objects)
     for kind, its in rows.items():
         check_kind(kind, its, page, len(checked["files"]) == 1)

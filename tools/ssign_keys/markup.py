@@ -24,8 +24,8 @@ class Markup:
 Child = Union[str, Markup]
 # elements without contents, and those after which a line ends, so that a page can be read as a text
 EMPTY = frozenset(("meta", "br", "path", "rect"))
-LINES = frozenset(("h1", "h2", "p", "li", "ul", "tr", "table", "thead", "tbody", "div", "dl", "dd", "section",
-                   "main", "figure", "figcaption", "details", "summary", "svg", "pre", "title", "caption", "meta", "style", "head", "body"))
+LINES = frozenset(("h1", "h2", "p", "li", "ul", "tr", "table", "thead", "tbody", "div", "dl", "dd", "section", "main", "figure",
+                   "figcaption", "details", "summary", "svg", "pre", "title", "caption", "meta", "style", "head", "body"))
 
 
 def escaped(text: str) -> str:

@@ -222,7 +222,7 @@ class Page(Weighed):
     def _pictures(self) -> Markup:
         """The strips: those with findings, or one, and the others folded."""
         strips, count = self._strips.longest(), self.totals.messages
-        titles = [(it, f"{whose(*it.group)}, numbers 1 to {it.last:,}", "number") for it in strips]
+        titles = [(it, f"{whose(*it.group)}, numbers {it.first:,} to {it.last:,}", "number") for it in strips]
         if count:
             titles.append((self._places, f"All stored messages, places 0 to {count - 1:,}", "place"))
         titles.sort(key=lambda it: not it[0].found)

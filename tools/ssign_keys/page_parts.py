@@ -70,7 +70,8 @@ def cut_list(name: str, lines: Sequence[str]) -> List[Markup]:
 def foot(checked: Checked) -> str:
     """The style of what stands below each sheet of paper: the first log with its SHA-256, and the sheet's number."""
     digest, more = checked.logs[0].digest, len(checked.logs) - 1
-    text = f"{shown_name(digest.name)[:MOST_NAME]}, SHA-256 {digest.sha256}" + (f", and {grouped(more, 'more log')}" if more else "")
+    others = f", and {grouped(more, 'more log')}" if more else ""
+    text = f"{shown_name(digest.name)[:MOST_NAME]}, SHA-256 {digest.sha256}{others}"
     font = "font:7pt system-ui,sans-serif"
     return (f'@page{{@bottom-left{{content:"{css_text(text)}";{font}}}'
             f'@bottom-right{{content:counter(page) " / " counter(pages);{font}}}}}\n')

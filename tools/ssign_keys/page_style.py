@@ -10,20 +10,20 @@ from .markup import Markup, drawn, element
 # what is drawn over the colour of a kind, in a tile of 6 by 6; kinds without a pattern are one colour
 PATTERNS: Dict[str, str] = {
     "missing": "M-1 1L1 -1M0 6L6 0M5 7L7 5", "disputed": "M0 0L6 6M6 0L0 6", "unannounced": "M0 1.5H6M0 4.5H6",
-    "missing-up-to-the-counters": "M3 0V6", "changed-or-replaced": "M0 3L3 0L6 3", "unlisted": "M-1 5L1 7M0 0L6 6M5 -1L7 1", "unverified": "M0 3H6M3 0V6", "spoilt": "M1 1H3V3H1Z",
-    "damaged": "M0 3L3 0L6 3L3 6Z",
+    "missing-up-to-the-counters": "M3 0V6", "changed-or-replaced": "M0 3L3 0L6 3", "unlisted": "M-1 5L1 7M0 0L6 6M5 -1L7 1",
+    "unverified": "M0 3H6M3 0V6", "spoilt": "M1 1H3V3H1Z", "damaged": "M0 3L3 0L6 3L3 6Z",
 }
 LIGHT = {
     "back": "#ffffff", "fore": "#1a1a1a", "dim": "#595959", "line": "#b8b8b8", "box": "#f3f3f0", "listed": "#2f7d4f",
     "missing": "#b3261e", "disputed": "#7a1fa2", "unannounced": "#9a6200", "missing-up-to-the-counters": "#1f5fb3",
-    "changed-or-replaced": "#8f5a00", "unlisted": "#c2410c",
+    "changed-or-replaced": "#4a55c8", "unlisted": "#c2410c",
     "unverified": "#8c2d55", "spoilt": "#5d4037", "damaged": "#00696b", "verified": "#7d8b98", "good": "#e3f2e6", "good-fore": "#14532d",
     "bad": "#fde7e4", "bad-fore": "#7a1510",
 }
 DARK = {
     "back": "#15171a", "fore": "#e8e6e3", "dim": "#a9a9a9", "line": "#50555b", "box": "#1f2226", "listed": "#5cb87f",
     "missing": "#ff7b70", "disputed": "#d08bf0", "unannounced": "#f2b84b", "missing-up-to-the-counters": "#79aef2",
-    "changed-or-replaced": "#e0a850", "unlisted": "#ff9a63",
+    "changed-or-replaced": "#a5b0ff", "unlisted": "#ff9a63",
     "unverified": "#ef8fb8", "spoilt": "#c7a79b", "damaged": "#4fc4c4", "verified": "#8794a1", "good": "#163522", "good-fore": "#c9f2d6",
     "bad": "#43191a", "bad-fore": "#ffd9d4",
 }

@@ -16,8 +16,8 @@ LEAST, APART = 5, 150
 # how many runs have words, and of what part of the strip each of them is at least
 MOST_MARKS, WIDE = 4, 500
 # the kinds that are drawn, the lowest first
-DRAWN = ("verified", "listed", "missing", "changed or replaced", "missing up to the counters", "disputed", "unannounced", "unlisted",
-         "unverified", "spoilt", "damaged")
+DRAWN = ("verified", "listed", "missing", "changed or replaced", "missing up to the counters", "disputed", "unannounced",
+         "unlisted", "unverified", "spoilt", "damaged")
 # those that are as they were signed, and what is said of them besides
 FINE = {"verified": ": a block with a valid signature by the trusted key", "listed": ": stored exactly as it was signed"}
 
@@ -48,12 +48,10 @@ class Strip:
     def take(self, first: int, last: int, kind: str) -> None:
         """Takes numbers of a kind."""
         self.counts[kind] = self.counts.get(kind, 0) + last - first + 1
-        bins = self._bins.setdefault(kind, array("Q", bytes(8 * self.size)))
-        first, last = max(first, self.first), min(last, self.last)
-        if first > last:
-            return
-        low, high = self.bin_of(first), self.bin_of(last)
-        for at in range(low, high + 1):
+        if kind not in self._bins:
+            self._bins[kind] = array("Q", bytes(8 * self.size))
+        bins, first, last = self._bins[kind], max(first, self.first), min(last, self.last)
+        for at in range(self.bin_of(first), self.bin_of(last) + 1) if first <= last else ():
             numbers = self.range_of(at)
             bins[at] += min(last + 1, numbers.stop) - max(first, numbers.start)
 
@@ -78,7 +76,8 @@ class Strip:
     def picture(self, title: str, unit: str, runs: Dict[str, Longest[Run]]) -> Markup:
         """The strip with its counts and its ends, and with words at the longest of these runs that can be seen."""
         said = f"{title}: {self.text()}"
-        bins = "" if self.size == self._span else f" Each of {self.size} bars stands for about {-(-self._span // self.size):,} {unit}s."
+        each = -(-self._span // self.size)
+        bins = "" if self.size == self._span else f" Each of {self.size} bars stands for about {each:,} {unit}s."
         own = sorted(((it.stretch.length, it.stretch.first, kind) for kind in DRAWN if kind in runs for it in runs[kind].longest()
                       if it[:3] == self.group and it.stretch.length * WIDE >= self._span), reverse=True)
         words, height = self._words([(first, f"{count:,} {kind}") for count, first, kind in own[:MOST_MARKS]])
