@@ -251,7 +251,7 @@ def sorted_rows(objects: List[Dict[str, Any]]) -> Dict[str, List[Row]]:
             is_matched = line == "gap" and len(inside) == it["count"] and not it["likely_offsets"]
             kind = it["finding"]
             if line == "hole":
-                is_in_hole |= set(inside)
+                is_in_hole |= set(inside) if len(inside) <= it["count"] else set()
             elif is_matched and not taken & set(inside):
                 taken |= set(inside)
                 kind = "changed or replaced"
@@ -365,7 +365,9 @@ def check_leads(rows: Dict[str, List[Row]], box: Node, objects: List[Dict[str, A
             times = [f"{word} {stamp}" for word, stamp in re.findall(r"(after|before) number [0-9]+ at place [0-9]+, of ([^;]*)", it.between)]
             at = lead.index(", ".join([re.sub(r" \(place .*", "", it.where), *times]), at)
         rest = len(its) - NAMED
-        assert (f"; and {grouped(rest, 'more run')}." in lead) == (rest > 0), lead
+        assert (f"; and {grouped(rest, 'more run')}" in lead) == (rest > 0), lead
+        others = objects[-1]["unlisted"] - sum(it.length for name in ("unlisted", "changed or replaced") for it in rows.get(name, ()))
+        assert kind != "unannounced" or (f"; {grouped(others, 'unlisted message')} may be " in lead) == (others > 0), lead
 
 
 def check_kind(kind: str, rows: List[Row], page: Node, is_one_file: bool) -> None:

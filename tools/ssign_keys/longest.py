@@ -142,8 +142,10 @@ class Weighed(StretchVisitor):
             end = len(self._unlisted) if stretch.behind is None else bisect.bisect_left(self._unlisted, stretch.behind[1])
             stored = range(low, max(low, end))
             if kind == "unannounced":
-                self._claims[stored.start] += 1
-                self._claims[stored.stop] -= 1
+                # of more messages than numbers some are none of these, so all of them stay unlisted
+                is_claimed = len(stored) <= stretch.length
+                self._claims[stored.start] += is_claimed
+                self._claims[stored.stop] -= is_claimed
             elif stretch.is_matched and not any(self._is_taken[low:end]):
                 self._is_taken[low:end] = bytes((1,)) * len(stored)
                 kind = "changed or replaced"

@@ -210,13 +210,17 @@ class Page(Weighed):
             count, runs = self._count(kind), self.runs[kind]
             if not count:
                 continue
-            # the others are counted with the numbers that may be theirs
-            other = "other " if kind == "unlisted" and count < self.totals.unlisted else ""
+            # these are counted with the numbers that may be theirs
+            others = self.totals.unlisted - self.runs["unlisted"].numbers
+            other = "other " if kind == "unlisted" and others else ""
             ways: List[Child] = []
             for at, it in enumerate(runs.longest()[:NAMED]):
                 between = self._between(it.stretch, False)
                 ways += ["; " if at else ": ", named(it.words(self.has_one_group)), ", " if between else "", between]
             more = f"; and {grouped(runs.entries - NAMED, 'more run')}" if runs.entries > NAMED else ""
+            others -= self.runs["changed or replaced"].numbers
+            if kind == "unannounced" and others:
+                more += f"; {grouped(others, 'unlisted message')} may be {'its' if count == 1 else 'their'} own"
             yield joined(plain("strong", its.counted(count, other)), *ways, more, ".")
 
     def _pictures(self) -> Markup:
