@@ -167,6 +167,14 @@ text commands hostile.html | sed "s|^ssign-keys |'$keys_program' |" >repeated
 bash repeated >said 2>err
 holds 'hostile: its commands name the files' test "$(tail -n 1 said).$(wc -c <err)" = 1.0
 
+# ---- several sessions and groups: a run names its own
+for pri in 13 14; do seq -f "<$pri>1 2026-01-01T00:00:00Z h a - - - message %.0f" 20; done >texts
+keys sign --key private-key.pem --host h --app a --rsid 2 --groups pri --count 5 --lines texts
+cat out signed >joined.frames
+pages halve joined.frames groups.frames rest.frames
+page groups 1 --key public-key.pem --key key.pem groups.frames
+holds 'several groups: a run names its own' grep -qF 'number 2 of h a - 2, SG 1, SPRI 13' groups.html
+
 # ---- the file of a page
 taken() {
     holds "$1: status" test "$status" = 2
