@@ -291,7 +291,7 @@ else
     if ! command -v pdfinfo >"$scratch/out" || ! command -v pdftotext >"$scratch/out"; then
         echo "$name: no pdfinfo here (apt-get install poppler-utils), so no page is looked at on paper"
     else
-        sheets changed.html 2 'was likely changed or replaced'
+        sheets changed.html 2 'is likely changed or replaced'
         if [[ -z ${SSIGN_SMALL-} ]]; then
             sheets noise.html 6 'numbers 64001 to 64495 (495 messages)'
             sheets mixed.html 6 'numbers 64001 to 64495 (495 messages)'
