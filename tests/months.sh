@@ -189,7 +189,7 @@ shows 'a later night, as JSON' 1 "^{\"line\":\"early\",.*\"first\":$first,\"last
 shows 'an earlier night' 1 "^  beyond, announced here .*, numbers $first to $last" --from c3 --counters c4 "$night"
 shows 'an earlier night, as JSON' 1 "\"beyond\":$count,\"unlisted\":0" --json --from c3 --counters c4 "$night"
 shows 'an earlier night, as a page' 1 '^Verdict: ' --html page --from c3 --counters c4 "$night"
-holds 'an earlier night, as a page: its row' grep -q '<strong>beyond</strong>' page
+holds 'an earlier night, as a page: its row' grep -q '<table id="beyond"' page
 shows 'a night without a message' 1 'Nothing is missing between the counters\.$' --manifest manifest --from-manifest logs/night-06.frames
 holds 'a night without a message: what to do' grep -qF "A night without a message looks the same: \`ssign-keys verify --nights MANIFEST FOLDER\` judges it by its entry, beside the other nights." out
 shows 'a night whose messages are gone' 1 '^Verdict: NOTHING IS SHOWN: ' --from c4 --counters c5 every/night-06.frames

@@ -132,7 +132,8 @@ page torn-between 1 --key key.pem torn.frames second.frames.gz
 page unsigned 1 --key key.pem unsigned.frames
 page empty 1 --key key.pem empty.frames
 page several 0 --session-key 'gate.example.org * * *' key.pem --hostname --counters counters first.frames second.frames.gz
-holds 'a likely pair stands in the page of a changed log' grep -q '<table id="pairs"' changed.html
+holds 'a message that was likely changed stands in a table of its own' grep -q '<table id="changed-or-replaced"' changed.html
+holds 'each sheet of paper names the log' grep -qF "content:\"cut.frames, SHA-256 $(sha256sum <cut.frames | cut -d ' ' -f 1)\"" cut.html
 keys verify --key key.pem --counters counters cut.frames
 cp out plain
 keys verify --key key.pem --counters counters --html beside.html cut.frames
@@ -167,6 +168,14 @@ holds 'hostile: a name is spelled' grep -qF '&lt;img src=x onerror=alert(1)&gt;\
 text commands hostile.html | sed "s|^ssign-keys |'$keys_program' |" >repeated
 bash repeated >said 2>err
 holds 'hostile: its commands name the files' test "$(tail -n 1 said).$(wc -c <err)" = 1.0
+
+# ---- several sessions and groups: a run names its own
+for pri in 13 14; do seq -f "<$pri>1 2026-01-01T00:00:00Z h a - - - message %.0f" 20; done >texts
+keys sign --key private-key.pem --host h --app a --rsid 2 --groups pri --count 5 --lines texts
+cat out signed >joined.frames
+pages halve joined.frames groups.frames rest.frames
+page groups 1 --key public-key.pem --key key.pem groups.frames
+holds 'several groups: a run names its own' grep -qF 'number 2 of h a - 2, SG 1, SPRI 13' groups.html
 
 # ---- the file of a page
 taken() {
@@ -224,7 +233,19 @@ if [[ -z ${SSIGN_SMALL-} ]]; then
     done
     holds 'a large log: its page is small' test "$(stat -c %s large.html)" -lt 20000
     holds 'a large log with 50,000 runs: its page' test "$(stat -c %s half.html)" -lt 200000
-    holds 'a large log: how many findings' grep -q '<h2>Findings (50,000)</h2>' half.html
+    holds 'a large log: how many findings' grep -q '<h2>Missing (50,000)</h2>' half.html
+    # 204 single messages and a run of 495 were taken out; and besides, messages were changed, others put in, and blocks damaged
+    pages noise large noise mixed
+    for log in noise mixed; do
+        keys verify --key public-key.pem --json --html "$log.html" "$log"
+        cp out "$log.json"
+        holds "$log: the form of the page" text form "$log.html"
+        holds "$log: the page is what the JSON says" text same "$log.json" "$log.html"
+        holds "$log: the longest run leads on the page" grep -q '<strong>[0-9]* announced messages are missing</strong>: <bdi>numbers 64001 to 64495 (495 messages)</bdi>' "$log.html"
+        keys verify --key public-key.pem "$log"
+        holds "$log: the longest run leads in the text" cmp <(sed -n 1,3p out) <(printf '%s\n' "$(tail -n 1 out)" 'The longest runs of each kind:' \
+            '  missing: numbers 64001 to 64495 (495 messages)')
+    done
     small=$(milliseconds "$keys_program" verify --key public-key.pem --html quarter.html quarter)
     great=$(milliseconds "$keys_program" verify --key public-key.pem --html again.html half)
     echo "$name: 25,000 messages with 12,500 runs: $small ms; four times as many: $great ms"
@@ -238,13 +259,14 @@ if [[ -z $browser ]]; then
 else
     apart=()
     unshare -rn true 2>unshare.log && apart=(unshare -rn)
+    width=900
     # browse PAGE WANTED: what the browser made of a page stands in dom.html, and what it said is as wanted.
     browse() {
         rm -rf profile dom.html net.json shot.png
         timeout 300 "${apart[@]}" "$browser" --headless --no-sandbox --disable-gpu --hide-scrollbars --no-first-run \
             --disable-extensions --disable-background-networking --disable-component-update --disable-sync --disable-default-apps \
             --host-resolver-rules='MAP * ~NOTFOUND' --user-data-dir="$scratch/profile" --enable-logging=stderr \
-            --window-size=900,1600 --screenshot="$scratch/shot.png" --dump-dom --log-net-log="$scratch/net.json" \
+            --window-size=$width,1600 --screenshot="$scratch/shot.png" --dump-dom --log-net-log="$scratch/net.json" \
             "file://$scratch/$1" >dom.html 2>browser.log
         holds "in Chromium: $1" text browser browser.log net.json shot.png "$2"
     }
@@ -252,6 +274,31 @@ else
         browse "$each.html" fine
         holds "in Chromium: the text of $each.html" text same "$each.json" dom.html
     done
+    width=400
+    browse changed.html fine
+    holds 'in Chromium, 400 wide: the text' text same changed.json dom.html
+    width=900
+    # sheets PAGE MOST WORDS: on A4 paper it has at most so many sheets, and the first one has these words.
+    sheets() {
+        rm -rf profile page.pdf
+        timeout 300 "${apart[@]}" "$browser" --headless --no-sandbox --disable-gpu --no-first-run --disable-extensions \
+            --disable-background-networking --disable-component-update --disable-sync --disable-default-apps \
+            --user-data-dir="$scratch/profile" --no-pdf-header-footer --print-to-pdf="$scratch/page.pdf" "file://$scratch/$1" 2>browser.log
+        pdfinfo page.pdf >sheets
+        echo "$name: on A4 paper $1 has $(sed -n 's/^Pages: *//p' sheets) sheets"
+        holds "on paper, $1: at most $2 sheets" test "$(sed -n 's/^Pages: *//p' sheets)" -le "$2"
+        holds "on paper, $1: A4" grep -q '^Page size: .*(A4)' sheets
+        holds "on paper, $1: what the first sheet names" grep -qF "$3" <(pdftotext -f 1 -l 1 page.pdf - | tr '\n' ' ')
+    }
+    if ! command -v pdfinfo >"$scratch/out" || ! command -v pdftotext >"$scratch/out"; then
+        echo "$name: no pdfinfo here (apt-get install poppler-utils), so no page is looked at on paper"
+    else
+        sheets changed.html 2 'is likely changed or replaced'
+        if [[ -z ${SSIGN_SMALL-} ]]; then
+            sheets noise.html 6 'numbers 64001 to 64495 (495 messages)'
+            sheets mixed.html 6 'numbers 64001 to 64495 (495 messages)'
+        fi
+    fi
     # the same checks see a script and a request, and that the policy stops both
     sed 's|<h1>|<img src="http://page.invalid/x.png"><script>document.title="run"</script><h1>|' clean.html >put-in.html
     grep -v Content-Security-Policy put-in.html >open.html

@@ -7,8 +7,7 @@
                                                 is `blocked`, that the policy stopped what was put in, or where it is `let`,
                                                 that a page without the policy is seen to ask
     page_text.py commands PAGE                  prints the commands that repeat the check
-    page_text.py head PAGE                      prints the head of the page: the verdict, the counts that aren't 0, the kinds
-                                                of findings
+    page_text.py head PAGE                      prints the head of the page: the verdict, and a sentence for each kind of finding
     page_text.py limits PAGE                    how large the page is, in octets, rows and rectangles, within limits
     page_text.py texts TOOLS                    no text becomes an element, an attribute or the end of one
 """
@@ -29,15 +28,20 @@ from urllib.parse import unquote
 ALONE = {"meta", "br", "link", "img", "input", "hr"}
 ALLOWED = {
     "html": {"lang"}, "head": set(), "meta": {"charset", "http-equiv", "content", "name"}, "title": set(), "style": set(),
-    "body": set(), "main": set(), "section": set(), "h1": set(), "h2": set(), "h3": set(), "h4": set(), "p": {"class"},
+    "body": set(), "main": set(), "section": set(), "h1": set(), "h2": set(), "p": {"class"}, "details": set(), "summary": set(),
     "div": {"class", "id", "aria-hidden"}, "span": {"class", "id", "aria-hidden"}, "strong": set(), "bdi": set(), "code": set(),
-    "ul": {"class"}, "li": set(), "pre": {"id", "tabindex"}, "table": {"id", "role"}, "caption": set(), "thead": {"role"},
+    "ul": {"class", "id"}, "li": set(), "text": {"x", "y", "text-anchor"},
+    "pre": {"id", "tabindex"}, "table": {"id", "role"}, "caption": set(), "thead": {"role"},
     "tbody": {"role"}, "tr": {"role"}, "th": {"scope", "role"}, "td": {"role", "data-head"}, "figure": set(), "figcaption": set(),
     "svg": {"class", "viewbox", "role", "aria-label", "aria-hidden"}, "defs": set(),
     "pattern": {"id", "width", "height", "patternunits"}, "path": {"class", "d"}, "rect": {"class", "width", "height"},
 }
-ROWS = 200
-RANKS = ("verified", "listed", "tail", "unannounced", "unlisted", "unverified", "spoilt", "damaged", "missing", "disputed")
+ROWS, NAMED, TOP = 200, 3, 12
+# the kinds that a strip draws, the lowest first
+DRAWN = ("verified", "listed", "missing", "changed or replaced", "missing up to the counters", "disputed", "unannounced",
+         "unlisted", "unverified", "spoilt", "damaged")
+KINDS = ("missing", "changed or replaced", "missing up to the counters", "unlisted", "unannounced", "missing blocks", "disputed",
+         "early", "beyond", "out of order", "damaged", "torn", "manifest", "not joined", "SHA-1", "unverified", "strangers", "spoilt")
 
 
 class Node:
@@ -124,7 +128,8 @@ def check_form(path: str, made_by: str = "ssign-keys verify --html", more: Optio
     check_policy(page, source)
     assert more or re.search(r"<a\b", source, re.IGNORECASE) is None
     check_reading(page)
-    check_pictures(page, source)
+    if more is None:
+        check_pictures(page, source)
 
 
 def check_policy(page: Node, source: str) -> None:
@@ -170,18 +175,19 @@ def check_pictures(page: Node, source: str) -> None:
     """Each picture has its text beside it, and each kind but the best ones a pattern."""
     patterns = {it.attributes["id"] for it in page.all("pattern")}
     styles = page.one("style").text()
-    for kind in RANKS:
+    for kind in (it.replace(" ", "-") for it in DRAWN):
         fill = f"url(#p-{kind})" if kind not in ("listed", "verified") else f"var(--{kind})"
         assert f".{kind}{{fill:{fill}}}" in styles and (kind in ("listed", "verified") or f"p-{kind}" in patterns), kind
     for it in page.all("svg"):
         if it.attributes.get("role") != "img":
             assert it.attributes.get("aria-hidden") == "true", it.attributes
+    shown = set()
     for figure in page.all("figure"):
         picture = figure.one("svg", "role", "img")
         assert figure.one("figcaption").text().startswith(picture.attributes["aria-label"] + "."), picture.attributes
-        shown = {it.attributes["class"] for it in picture.all("path")} - {"mark"}
-        keys = [it.attributes["class"] for it in figure.one("ul", "class", "key").all("rect")]
-        assert set(keys) == shown and len(keys) == len(shown), (keys, shown)
+        shown |= {it.attributes["class"] for it in picture.all("path")}
+    keys = [it.attributes["class"] for it in page.one("ul", "class", "key").all("rect")] if shown else []
+    assert not shown or set(keys) == shown and len(keys) == len(shown), (keys, shown)
     assert source.count('role="img"') == sum(1 for _ in page.all("figure"))
 
 
@@ -202,43 +208,107 @@ def whose(it: Dict[str, Any], has_group: bool = True) -> str:
     return f"{it['host']} {it['app']} {it['procid']} {it['rsid']}" + (f", SG {it['sg']}, SPRI {it['spri']}" if has_group else "")
 
 
-def times(it: Dict[str, Any]) -> str:
-    """Between which times something was sent."""
+class Row:
+    """A row: how many numbers or messages it is about, where these are, between which neighbours, and what is stored there."""
+
+    def __init__(self, length: int, where: str, between: str = "", texts: Any = (), what: Optional[str] = "") -> None:
+        self.length = length
+        self.where = where
+        self.between = between
+        self.texts: List[Dict[str, Any]] = list(texts)
+        self.what = what
+
+
+def between(it: Dict[str, Any]) -> str:
+    """Between which neighbours numbers stand."""
     said = []
     for side in ("before", "after"):
         if it.get(side) is not None:
             stamp = it[side]["timestamp"]
-            said.append(f"{'after' if side == 'before' else 'before'} "
+            said.append(f"{'after' if side == 'before' else 'before'} number {it[side]['number']} at place {it[side]['place']}, of "
                         + ("a message without a time" if stamp in (None, "-") else stamp))
-    return ", ".join(said)
+    return "; ".join(said) or ("" if it["line"] == "tail" else "no other number of this group is listed")
 
 
-def finding_row(it: Dict[str, Any]) -> Optional[Tuple[str, str, str, Optional[str]]]:
-    """The row of an object: its kind, where, the time, and the text, which is None where it isn't compared."""
-    line = it["line"]
-    if line in ("gap", "hole"):
-        sides = [f"{'after' if side == 'before' else 'before'} number {it[side]['number']} at place {it[side]['place']}"
-                 for side in ("before", "after") if it[side] is not None]
-        return it["finding"], f"{whose(it)}, {numbers(it['first'], it['last'])}", times(it), \
-            ", ".join(sides) or "no other number of this group is listed"
-    if line == "tail":
-        return "missing up to the counters", f"{whose(it)}, {numbers(it['first'], it['last'])}", times(it), None
-    if line == "blocks":
-        span = f"GBC {it['first']}" + ("" if it["first"] == it["last"] else
-                                       f" to {it['last']} ({it['last'] - it['first'] + 1:,} blocks)")
-        return "missing blocks", f"{whose(it, False)}, {span}", "", None
-    if line in ("unlisted", "refused", "spoilt"):
-        rest = f" .. ({grouped(it['octets'], 'octet')})" if it["octets"] > (2048 if line == "unlisted" else 60) else ""
-        cause = f"{it['cause']}: " if line == "spoilt" else ""
-        stamp = "states no time" if it["timestamp"] in (None, "-") else it["timestamp"]
-        return it["finding"], f"{it['file']}, place {it['file_place']}", stamp, f"{cause}{it['text']}{rest}"
-    if line == "damaged":
-        return "damaged", f"{it['file']}, octet {it['file_offset']}", "", None
-    if line == "torn":
-        return "torn", f"{it['file']}, octet {it['file_offset']}", "", None
-    if line == "manifest":
-        return "manifest", it["where"], "", it["what"]
-    return None
+def sorted_rows(objects: List[Dict[str, Any]]) -> Dict[str, List[Row]]:
+    """The rows of each kind, each finding in one of them, the longest first."""
+    rows: Dict[str, List[Row]] = {it: [] for it in KINDS}
+    stored = {it["place"]: it for it in objects if it["line"] == "unlisted"}
+    places, taken, is_in_hole = sorted(stored), set(), set()
+    has_one_group = len(objects[-1]["groups"]) == 1
+    for it in objects:
+        line = it["line"]
+        assert "count" not in it or "first" not in it or it["count"] == it["last"] - it["first"] + 1, it
+        where = "" if "first" not in it or line == "blocks" else \
+            numbers(it["first"], it["last"]) + ("" if has_one_group else f" of {whose(it)}")
+        if line == "session":
+            take_session(it, rows)
+        elif line in ("gap", "hole"):
+            low = it["before"]["place"] if it["before"] else -1
+            high = it["after"]["place"] if it["after"] else 1 << 64
+            inside = [at for at in places if low < at < high] if line == "hole" or it["likely_places"] else []
+            # damaged octets may have been any number of messages
+            is_matched = line == "gap" and len(inside) == it["count"] and not it["likely_offsets"]
+            kind = it["finding"]
+            if line == "hole":
+                is_in_hole |= set(inside) if len(inside) <= it["count"] else set()
+            elif is_matched and not taken & set(inside):
+                taken |= set(inside)
+                kind = "changed or replaced"
+            rows[kind].append(Row(it["count"], where, between(it), [stored[at] for at in inside], None))
+        elif line == "tail":
+            rows["missing up to the counters"].append(Row(it["count"], where, between(it)))
+        elif line in ("early", "beyond"):
+            rows[line].append(Row(it["count"], where))
+        elif line == "blocks":
+            count = it["last"] - it["first"] + 1
+            span = f"GBC {it['first']}" + (f" to {it['last']} ({count:,} blocks)" if count > 1 else "")
+            rows["missing blocks"].append(Row(count, f"{span} of {whose(it, False)}"))
+        elif line == "damaged":
+            rows[line].append(Row(it["length"], f"{it['file']}, octet {it['file_offset']}", what=None))
+        elif line == "torn":
+            rows[line].append(Row(1, f"{it['file']}, octet {it['file_offset']}", what=None))
+        elif line == "manifest":
+            rows[line].append(Row(1, it["where"], what=it["what"]))
+    take_places(objects, taken | is_in_hole, len(objects[0]["files"]) == 1, rows)
+    for it in objects[-1]["groups"]:
+        if it["out_of_order"]:
+            rows["out of order"].append(Row(1, whose(it), what=None))
+    return {kind: sorted(its, key=lambda row: -row.length) for kind, its in rows.items() if its}
+
+
+def take_session(it: Dict[str, Any], rows: Dict[str, List[Row]]) -> None:
+    """The rows of a session."""
+    name = whose(it, False)
+    if it["weakness"]:
+        rows["SHA-1"].append(Row(1, name, what=it["weakness"]))
+    if it["strangers"]:
+        words = "1 block claims this session and isn't validly signed; it was left out and changes nothing" \
+            if it["strangers"] == 1 else f"{it['strangers']:,} blocks claim this session and aren't validly signed; " \
+            "they were left out and change nothing"
+        rows["strangers"].append(Row(1, name, what=words))
+    if it["state"] != "joined":
+        rows["not joined"].append(Row(1, name, what=None))
+
+
+def place_words(it: Dict[str, Any], is_one_file: bool) -> str:
+    """The place of a message, also in its file."""
+    return f"place {it['place']}" + ("" if is_one_file else f" (place {it['file_place']} of {it['file']})")
+
+
+def take_places(objects: List[Dict[str, Any]], passed: Set[int], is_one_file: bool, rows: Dict[str, List[Row]]) -> None:
+    """The rows of messages at places that follow one another."""
+    run: List[Dict[str, Any]] = []
+    for it in [*objects, {"line": "", "place": -1}]:
+        if it["line"] not in ("unlisted", "refused", "spoilt", "") or it["line"] == "unlisted" and it["place"] in passed:
+            continue
+        if run and (it["line"], it.get("cause"), it["place"] - 1) != (run[-1]["line"], run[-1].get("cause"), run[-1]["place"]):
+            first, last = run[0]["place"], run[-1]["place"]
+            where = place_words(run[0], is_one_file) if first == last else f"places {first} to {last} ({len(run):,} messages)"
+            rows[run[0]["finding"]].append(Row(len(run), where, texts=run,
+                                               what=f"{run[0]['cause']}: " if "cause" in run[0] else ""))
+            run = []
+        run.append(it)
 
 
 def cells(table: Node) -> List[List[str]]:
@@ -252,14 +322,15 @@ def check_same(objects: List[Dict[str, Any]], page: Node) -> None:
     assert page.one("span", "id", "sentence").text() == verdict["verdict"], page.one("span", "id", "sentence").text()
     word = "Clean" if verdict["status"] == 0 else "Findings" if verdict["listed"] else "Nothing is shown"
     box = page.one("div", "id", "verdict")
-    assert box.one("strong").text()[2:] == word and box.attributes["class"] == f"verdict {'bad' if verdict['status'] else 'good'}"
-    names = {"missing_up_to_counters": "missing up to the counters", "missing_blocks": "missing blocks"}
-    keys = ("listed", "missing", "disputed", "unannounced", *names, "unlisted", "verified", "unverified", "spoilt", "damaged")
-    assert {row[0]: row[1] for row in cells(page.one("table", "id", "counts"))} == \
-        {names.get(it, it): f"{verdict[it]:,}" for it in keys if it in verdict}
-    check_findings(objects, page)
+    assert next(box.all("strong")).text()[2:] == word and box.attributes["class"] == f"verdict {'bad' if verdict['status'] else 'good'}"
+    rows = sorted_rows(objects)
+    check_leads(rows, box, objects)
+    for kind, its in rows.items():
+        check_kind(kind, its, page, len(checked["files"]) == 1)
+    assert {it.attributes["id"].replace("-", " ") for it in page.all("table")} - {"sessions", "sessions more"} == {
+        name for it, its in rows.items() for name in (it.replace("-", " "), f"{it} more") if name == it or len(its) > TOP}
     check_files(checked, page)
-    check_sessions(objects, page)
+    check_sessions(objects, rows, page)
     check_uncovered(verdict, page)
     repeat = page.one("pre", "id", "repeat").text()
     assert repeat.endswith(f"echo $?    # {verdict['status']}\n") and all(it["sha256"] in repeat for it in checked["files"])
@@ -278,155 +349,161 @@ def check_uncovered(verdict: Dict[str, Any], page: Node) -> None:
     assert "Whoever holds the private key can change the log and sign it again." in text
 
 
-def check_findings(objects: List[Dict[str, Any]], page: Node) -> None:
-    """The table of findings, and the pairs."""
-    rows, counts = [], {}
-    for it in objects:
-        found = []
-        assert "count" not in it or "first" not in it or it["count"] == it["last"] - it["first"] + 1, it
-        if it["line"] == "session":
-            if it["weakness"]:
-                found.append(("SHA-1", whose(it, False), "", it["weakness"]))
-            if it["strangers"]:
-                words = "1 block claims this session and isn't validly signed; it was left out and changes nothing" \
-                    if it["strangers"] == 1 else f"{it['strangers']:,} blocks claim this session and aren't validly signed; " \
-                    "they were left out and change nothing"
-                found.append(("strangers", whose(it, False), "", words))
-            if it["state"] != "joined":
-                found.append(("session", whose(it, False), "", None))
-        row = finding_row(it)
-        for each in [*found, *([row] if row else [])]:
-            counts[each[0]] = counts.get(each[0], 0) + 1
-            if counts[each[0]] <= ROWS:
-                rows.append(each)
-    heading = next(it.text() for it in page.all("h2") if it.text().startswith("Findings"))
-    assert heading == f"Findings ({sum(counts.values()):,})", (heading, counts)
-    shown = cells(page.one("table", "id", "findings")) if rows else []
-    assert len(shown) == len(rows), (len(shown), len(rows))
-    for found_cells, wanted in zip(shown, rows):
-        for found_cell, cell in zip(found_cells, wanted):
+def check_leads(rows: Dict[str, List[Row]], box: Node, objects: List[Dict[str, Any]]) -> None:
+    """The first box has a sentence for each kind, with its longest runs."""
+    leads = [it.text() for it in box.all("li")]
+    assert len(leads) == len(rows), (leads, list(rows))
+    total = {"damaged": objects[-1].get("damaged", 0)}
+    for lead, kind in zip(leads, (it for it in KINDS if it in rows)):
+        its = rows[kind]
+        count = total.get(kind) or sum(it.length for it in its)
+        assert lead.startswith(f"{count:,} ") and lead.endswith("."), (kind, lead)
+        if kind in ("out of order", "damaged", "torn", "manifest", "not joined", "SHA-1", "strangers"):
+            continue
+        at = 0
+        for it in its[:NAMED]:
+            times = [f"{word} {stamp}" for word, stamp in re.findall(r"(after|before) number [0-9]+ at place [0-9]+, of ([^;]*)", it.between)]
+            at = lead.index(", ".join([re.sub(r" \(place .*", "", it.where), *times]), at)
+        rest = len(its) - NAMED
+        assert (f"; and {grouped(rest, 'more run')}" in lead) == (rest > 0), lead
+        others = objects[-1]["unlisted"] - sum(it.length for name in ("unlisted", "changed or replaced") for it in rows.get(name, ()))
+        assert kind != "unannounced" or (f"; {grouped(others, 'unlisted message')} may be " in lead) == (others > 0), lead
+
+
+def check_kind(kind: str, rows: List[Row], page: Node, is_one_file: bool) -> None:
+    """The table of a kind: its first rows, and the others, folded."""
+    count = len(rows) if kind == "damaged" else sum(it.length for it in rows)
+    assert any(it.text() == f"{kind[0].upper()}{kind[1:]} ({count:,})" for it in page.all("h2")), (kind, count)
+    name, shown = kind.replace(" ", "-"), []
+    for its in page.all("table"):
+        if its.attributes["id"] in (name, f"{name}-more"):
+            heads = [it.text() for it in its.one("thead").all("th")]
+            shown += [dict(zip(heads, (it for it in row.children if isinstance(it, Node)))) for row in its.one("tbody").all("tr")]
+    assert len(shown) == min(len(rows), ROWS), (kind, len(shown), len(rows))
+    folded = [it for it in page.all("details") if any(its.attributes["id"] == f"{name}-more" for its in it.all("table"))]
+    assert len(folded) == (len(rows) > TOP), kind
+    room = ROWS
+    for row, wanted in zip(shown, rows):
+        found = {head: it.text() for head, it in row.items()}
+        assert found["Where"] == wanted.where and found.get("Between", "") == wanted.between, (found, wanted.where, wanted.between)
+        text, at = found.get("Text, or what it means", ""), 0
+        if wanted.what:
+            assert text.startswith(wanted.what), (text, wanted.what)
+        places = wanted.texts[:max(room, NAMED)]
+        room -= len(places)
+        for it in places:
+            place = f"{place_words(it, is_one_file)}: "
             # a page has room for so many letters, and then shows fewer of each text
-            is_cut = isinstance(cell, str) and re.search(r" \.\. \([0-9,]+ octets?\)$", found_cell) is not None
-            front = found_cell.rpartition(" .. (")[0]
-            assert cell is None or found_cell == cell or is_cut and len(front) >= 120 and str(cell).startswith(front), \
-                (found_cell, cell)
-    for kind, count in counts.items():
-        assert count <= ROWS or f"{count - ROWS:,} more: {kind}" in page.one("main").text(), kind
-    gaps = [it for it in objects if it["line"] == "gap" and (it["likely_places"] or it["likely_offsets"])]
-    # damaged octets may have been any number of messages
-    matched = [len(it["likely_places"]) == it["count"] and not it["likely_offsets"] for it in gaps]
-    pairs = sum(it["count"] if is_matched else 1 for it, is_matched in zip(gaps, matched))
-    if pairs == 0:
-        assert not [it for it in page.all("table") if it.attributes["id"] == "pairs"]
-        return
-    texts = {it["place"]: it for it in objects if it["line"] == "unlisted"}
-    damaged = {it["offset"]: it for it in objects if it["line"] == "damaged"}
-    is_one_file = len(objects[0]["files"]) == 1
-    wanted_pairs = []
-    for it, is_matched in zip(gaps, matched):
-        places = it["likely_places"]
-        each = [(it["first"] + at, it["first"] + at, [place]) for at, place in enumerate(places)] \
-            if is_matched else [(it["first"], it["last"], places)]
-        wanted_pairs += [(f"{whose(it)}, {numbers(first, last)}", times(it), some, it["likely_offsets"]) for first, last, some in each]
-    for found_cells, (missing, sent, places, offsets) in zip(cells(page.one("table", "id", "pairs")), wanted_pairs):
-        assert found_cells[:2] == [missing, sent], (found_cells, missing, sent)
-        for offset in offsets:
-            it = damaged[offset]
-            words = f"from octet {it['file_offset']}" + ("" if is_one_file else f" of {it['file']}")
-            assert f"{grouped(it['length'], 'damaged octet')} {words} on" in found_cells[2], found_cells
-        for place in places:
-            each_row = finding_row(texts[place])
-            assert each_row is not None and f"{each_row[1]}, {each_row[2]}: {str(each_row[3])[:100]}" in found_cells[2], found_cells
+            at = text.index(("" if len(wanted.texts) == 1 and wanted.between == "" else place) + it["text"][:100], at)
+            is_cut = it["octets"] > (2048 if it["line"] == "unlisted" else 60)
+            assert not is_cut or f" .. ({grouped(it['octets'], 'octet')})" in text[at:], text
+        more = len(wanted.texts) - len(places)
+        assert not more or f"and {grouped(more, 'more message')}" in text, text
+    left = len(rows) - ROWS
+    assert left <= 0 or f"Not shown: {grouped(left, 'more row')}." in page.one("main").text(), kind
 
 
 def check_files(checked: Dict[str, Any], page: Node) -> None:
     """What was checked."""
+    logs = [it.text() for it in page.one("ul", "id", "logs").all("li")]
+    keys = [it.text() for it in page.one("ul", "id", "keys").all("li")]
+    rest = [it.text() for it in page.one("ul", "id", "with").all("li")]
     wanted = []
     for it in checked["files"]:
-        packed = f"; compressed by {it['compressed']}, expanded {grouped(it['plain_size'], 'octet')} with the SHA-256 " \
-            f"{it['plain_sha256']}" if it["compressed"] else ""
-        places = "none" if it["first_place"] is None else f"{it['first_place']:,} to {it['last_place']:,}"
-        wanted.append([it["name"], f"{it['size']:,}", it["sha256"] + packed, f"{it['messages']:,}", places])
-    assert cells(page.one("table", "id", "files")) == wanted, (cells(page.one("table", "id", "files")), wanted)
-    for row, it in zip(cells(page.one("table", "id", "keys")), checked["keys"]):
-        assert row[:4] == [it["option"], it["file"], it["session"] or "", it["fingerprint"] or "-"], (row, it)
-        assert it["certificate"] is None or it["certificate"]["subject"] in row[4] and it["certificate"]["fingerprint"] in row[4]
-    table = dict(row for row in cells(page.one("table", "id", "with")))
+        first, last = it["first_place"], it["last_place"]
+        places = "" if first is None else f", place {first}" if first == last else f", places {first} to {last}"
+        wanted.append(f"log: {it['name']}, {grouped(it['size'], 'octet')}, SHA-256 {it['sha256']}, "
+                      f"{grouped(it['messages'], 'message')}{places}")
+        if it["compressed"]:
+            wanted.append(f"  compressed by {it['compressed']}; expanded: {grouped(it['plain_size'], 'octet')}, SHA-256 "
+                          f"{it['plain_sha256']}")
+    assert logs == wanted[:TOP], (logs, wanted)
+    assert len(keys) == len(checked["keys"])
+    for line, it in zip(keys, checked["keys"]):
+        assert line.startswith(f"key: {it['option']} {it['file']}") and (it["fingerprint"] or "") in line, (line, it)
+        assert it["session"] is None or f" for the session {it['session']}" in line, (line, it)
+        assert it["certificate"] is None or it["certificate"]["subject"] in line and it["certificate"]["fingerprint"] in line
     for name in ("counters", "manifest"):
         it = checked[name]
-        words = f"{it['name']}, {grouped(it['size'], 'octet')}, SHA-256 {it['sha256']}" if it else "none"
-        assert table[name.capitalize()] == words, (table[name.capitalize()], words)
-    assert table["Answers"].endswith(f"SHA-256 {checked['answers']['sha256']}")
-    assert table["Program"].endswith(f", {checked['ssign']['path']}, SHA-256 {checked['ssign']['sha256']}"), table
-    assert table["Tool"].endswith(f", {checked['tool']['path']}, SHA-256 {checked['tool']['sha256']}"), table
-    assert ("Machine" in table) == (checked["machine"] is not None)
+        assert [line for line in rest if line.startswith(f"{name}: ")] == (
+            [f"{name}: {it['name']}, {grouped(it['size'], 'octet')}, SHA-256 {it['sha256']}"] if it else []), (rest, it)
+    for front, name in (("answers: ", "answers"), ("program: ", "ssign"), ("tool: ", "tool")):
+        line = next(it for it in rest if it.startswith(front))
+        assert line.endswith(f"SHA-256 {checked[name]['sha256']}") and (checked[name].get("path") or "") in line, line
+    assert any(it.startswith("machine: ") for it in rest) == (checked["machine"] is not None)
+    # each sheet of paper names the first log
+    assert f"SHA-256 {checked['files'][0]['sha256']}" in page.one("style").text()
 
 
-def check_sessions(objects: List[Dict[str, Any]], page: Node) -> None:
-    """The sessions, with a strip for each group, and the strip of all places."""
+def check_sessions(objects: List[Dict[str, Any]], rows: Dict[str, List[Row]], page: Node) -> None:
+    """The joined sessions, with a strip for each group, and the strip of all places."""
     joined = [it for it in objects if it["line"] == "session" and it["state"] == "joined"]
-    heads = [it.text() for it in page.all("h3")]
-    assert heads == [f"Session: HOSTNAME {it['host']}, APP-NAME {it['app']}, PROCID {it['procid']}, RSID {it['rsid']}"
-                     for it in joined][:40], heads
-    text = page.one("main").text()
-    for it in joined[:40]:
+    assert any(it.text() == f"Sessions ({len(joined):,})" for it in page.all("h2"))
+    known = {row[0]: row[1] for its in page.all("table") if its.attributes["id"] in ("sessions", "sessions-more") for row in cells(its)}
+    assert set(known) == {whose(it, False) for it in joined} or len(known) == 500, known
+    for it in joined[:500]:
         first, last = it["first_timestamp"], it["last_timestamp"]
         span = "none states a time" if first is None else \
             f"{f'of {first}' if first == last else f'from {first} to {last}'}, by their sender's own clock"
-        assert f"listed messages: {span}" in text and it["fingerprint"] in text, (it, text)
+        assert f"listed messages: {span}" in known[whose(it, False)] and it["fingerprint"] in known[whose(it, False)], (it, known)
     groups: Dict[str, List[str]] = {}
+    changed = {it.where for it in rows.get("changed or replaced", [])}
+    has_one_group = len(objects[-1]["groups"]) == 1
     for it in objects:
         if it["line"] in ("ok", "gap", "hole", "tail"):
-            kind = {"ok": "listed", "tail": "tail"}.get(it["line"], it.get("finding", ""))
+            kind = {"ok": "listed", "tail": "missing up to the counters"}.get(it["line"], it.get("finding", ""))
             first, last = (it["number"], it["number"]) if it["line"] == "ok" else (it["first"], it["last"])
             if last - first > 1000000:
                 return
+            if numbers(first, last) + ("" if has_one_group else f" of {whose(it)}") in changed and it["line"] == "gap":
+                kind = "changed or replaced"
             found = groups.setdefault(whose(it), [])
             assert len(found) == first - 1, it
             found += [kind] * (last - first + 1)
-    pictures = [it.one("svg", "role", "img") for it in page.all("figure")]
-    is_joined = {whose(it, False) for it in joined}
-    drawn = [kinds for name, kinds in groups.items() if name.rpartition(", SG ")[0] in is_joined]
     count = objects[-2]["count"]
-    assert len(pictures) == len(drawn) + bool(count), (len(pictures), len(drawn))
     places = ["verified"] * count
     for it in objects:
         if it["line"] in ("ok", "unlisted", "refused", "spoilt"):
             places[it["place"]] = it.get("finding", "listed")
     # damaged octets are drawn at the message after them, or the last one
     damaged = [min(it["place"], count - 1) for it in objects if it["line"] == "damaged"]
-    for picture, kinds in zip(pictures, drawn):
-        check_strip(picture, kinds, [])
+    wanted = {f"{name}, numbers 1 to {len(kinds):,}": kinds for name, kinds in groups.items()}
     if count:
-        check_strip(pictures[-1], places, damaged)
+        wanted[f"All stored messages, places 0 to {count - 1:,}"] = places
+    pictures = {it.attributes["aria-label"].partition(": ")[0]: it for it in page.all("svg") if it.attributes.get("role") == "img"}
+    assert set(pictures) == set(wanted), (list(pictures), list(wanted))
+    has_findings = []
+    for name, picture in pictures.items():
+        has_findings.append(check_strip(picture, wanted[name], damaged if wanted[name] is places else []))
+    assert has_findings == sorted(has_findings, reverse=True), "a strip without findings stands in front"
 
 
-def check_strip(picture: Node, kinds: List[str], damaged: List[int]) -> None:
-    """Compares a strip with the kinds of all that it shows, and with where something is damaged."""
-    size = min(600, len(kinds))
-    bins = [max((RANKS.index(it) for it in set(kinds[-(-at * len(kinds) // size):-(-(at + 1) * len(kinds) // size)])), default=0)
-            for at in range(size)]
-    for place in damaged:
-        bins[place * size // len(kinds)] = max(bins[place * size // len(kinds)], RANKS.index("damaged"))
-    found: List[Optional[str]] = [None] * size
-    marked = [False] * size
+def check_strip(picture: Node, kinds: List[str], damaged: List[int]) -> bool:
+    """Compares a strip with the kinds of all that it shows, and with where something is damaged. Whether it has findings."""
+    size = min(240, len(kinds))
+    ends = [-(-at * len(kinds) // size) for at in range(size + 1)]
     for path in picture.all("path"):
-        for left, right in re.findall(r"M([0-9.]+) [0-9]+H([0-9.]+)V[0-9]+H[0-9.]+z", path.attributes["d"]):
+        kind = path.attributes["class"]
+        heights = [0.0] * size
+        for left, top, right, low in re.findall(r"M([0-9.]+) ([0-9.]+)H([0-9.]+)V([0-9.]+)H[0-9.]+z", path.attributes["d"]):
             for at in range(size):
-                if float(left) < (at + 0.5) * 600 / size < float(right):
-                    if path.attributes["class"] == "mark":
-                        marked[at] = True
-                    else:
-                        assert found[at] is None, at
-                        found[at] = path.attributes["class"]
-    assert found == [RANKS[it] for it in bins], (found[:20], [RANKS[it] for it in bins][:20])
-    assert all(marked[at] for at in range(size) if bins[at] > 1), "a finding has no mark"
-    words = {"tail": ("missing up to the counters",) * 2, "verified": ("verified block", "verified blocks"),
-             "unverified": ("unverified block", "unverified blocks"), "spoilt": ("spoilt block", "spoilt blocks"),
-             "damaged": ("damaged stretch", "damaged stretches")}
+                if float(left) < (at + 0.5) * 720 / size < float(right):
+                    assert not heights[at], at
+                    # what reaches the top is cut there
+                    heights[at] = float(low) - float(top) if float(top) else -1
+        for at in range(size):
+            some = [it.replace(" ", "-") for it in kinds[ends[at]:ends[at + 1]]]
+            count = some.count(kind) if kind != "damaged" else sum(ends[at] <= it < ends[at + 1] for it in damaged)
+            if kind in ("listed", "verified"):
+                # below the others stands one of both
+                assert (heights[at] == 8) == (count > 0 and (kind == "listed" or "listed" not in some)), (kind, at)
+            else:
+                assert (heights[at] == 0) == (count == 0), (kind, at, count)
+                assert heights[at] <= 0 or abs(heights[at] - max(5, 40 * count / len(some))) < 0.1, (kind, at, heights[at], count)
     all_kinds = [*kinds, *["damaged"] * len(damaged)]
-    counts = [grouped(all_kinds.count(it), *words.get(it, (it, it))) for it in RANKS if it in all_kinds]
+    counts = [f"{all_kinds.count(it):,} {it}" for it in DRAWN if it in all_kinds]
     assert picture.attributes["aria-label"].partition(": ")[2] == ", ".join(counts), (picture.attributes, counts)
+    return bool(set(all_kinds) - {"listed", "verified"})
 
 
 # ---- Chromium
@@ -474,17 +551,9 @@ def print_head(path: str) -> None:
     """Prints what stands at the head of a page, but for when it was made and by what."""
     page = read_page(path)
     box = page.one("div", "id", "verdict")
-    stored = next(it.text() for it in page.all("p") if it.text().startswith("The log has "))
-    print(page.one("h1").text(), box.one("strong").text(), page.one("span", "id", "sentence").text(), stored, sep="\n")
-    counts = [f"{row[1]} {row[0]}" for row in cells(page.one("table", "id", "counts")) if row[1] != "0"]
-    print(", ".join(counts) or "all counts are 0")
-    print(next(it.text() for it in page.all("h2")))
-    for table in page.all("table"):
-        if table.attributes["id"] == "findings":
-            kinds: Dict[str, int] = {}
-            for row in cells(table):
-                kinds[row[0]] = kinds.get(row[0], 0) + 1
-            print(", ".join(f"{count} {kind}" for kind, count in kinds.items()))
+    print(page.one("h1").text(), next(box.all("strong")).text(), page.one("span", "id", "sentence").text(), sep="\n")
+    for it in box.all("li"):
+        print(f"- {it.text()}")
 
 
 def check_texts(tools: str) -> None:

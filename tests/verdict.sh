@@ -97,6 +97,8 @@ verify "${key[@]}" halved
 says 'many runs of missing numbers' 1 '    missing: number 2' '    missing: number 20' \
     '    and 5,490 more runs of missing numbers (5,490 numbers)' '    numbers 1 to 11000: 5,500 listed, 5,500 missing' \
     'Verdict: FINDINGS: of 11,000 announced messages 5,500 are present and unchanged, 5,500 are missing.'
+holds 'many runs of missing numbers: the first lines name three' cmp <(sed 6q out) <(printf '%s\n' "$(tail -n 1 out)" 'The longest runs of each kind:' \
+    '  missing: number 2' '  missing: number 4' '  missing: number 6' '  and 5,497 more, none of them longer')
 holds 'many runs of missing numbers: no eleventh' test "$(grep -c '^    missing: ' out)" = 10
 
 # 30 sessions under a stranger's key, of which ten are shown, and one that is clean

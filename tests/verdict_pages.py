@@ -4,6 +4,8 @@
     verdict_pages.py make FOLDER                        makes logs of FOLDER/signed, cut and damaged
     verdict_pages.py hostile FOLDER NAME                makes messages that could be taken for something else
     verdict_pages.py halve LOG HALF QUARTER             makes a log without each second message, and its front
+    verdict_pages.py noise LOG NOISE MIXED              makes logs without 204 single messages and 495 in a run; in the other one
+                                                        some messages are changed, put in, and without their block
     verdict_pages.py checked JSON WORD.. -- NAME[=FILE].. what was checked is these files, by these words
     verdict_pages.py member JSON PATH                   prints a member of what was checked
     verdict_pages.py options HELP TOOLS                 each option of the help is known to whoever repeats a check
@@ -85,6 +87,28 @@ def halve(whole: str, half: str, quarter: str) -> None:
     gone = set(messages[1::2])
     write(half, b"".join(frame(it) for it in stored if it not in gone))
     write(quarter, b"".join(frame(it) for it in stored[:len(stored) // 4] if it not in gone))
+
+
+def noise(whole: str, only_lost: str, mixed: str) -> None:
+    """Makes logs without single messages and a run; in the second one 44 of the single ones are changed and not taken out, messages
+    are put in, a block is gone and another one damaged: 655 are missing, and none is in its place."""
+    stored = read_frames(read(whole))[0]
+    plain = [at for at, it in enumerate(stored) if b"[ssign" not in it]
+    blocks = [at for at, it in enumerate(stored) if b"[ssign " in it]
+    run = {plain[it] for it in range(64000, 64495)}
+    # none of them has a neighbour among the others, and none belongs to the two blocks
+    single = [plain[97 + 470 * it] for it in range(204)]
+    single = [it for it in single if it not in run and not any(blocks[at - 1] < it < blocks[at] for at in (300, 700))]
+    single += [plain[50 + 99 * it] for it in range(204 - len(single))]
+    write(only_lost, b"".join(frame(it) for at, it in enumerate(stored) if at not in run and at not in single))
+    made = []
+    for at, it in enumerate(stored):
+        if at in run or at in single[44:] or at == blocks[300]:
+            continue
+        made.append(it + b"_" if at in single or at == blocks[700] else it)
+        if at % 1100 == 5:
+            made.append(b"<13>1 2026-01-01T00:00:00Z h evil - - - put in after %d" % at)
+    write(mixed, b"".join(map(frame, made)))
 
 
 def digest(path: str) -> Dict[str, object]:
@@ -175,6 +199,8 @@ def main(command: str, *words: str) -> None:
         hostile(*words)
     elif command == "halve":
         halve(*words)
+    elif command == "noise":
+        noise(*words)
     elif command == "checked":
         check_checked(*words)
     elif command == "member":

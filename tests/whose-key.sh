@@ -171,14 +171,15 @@ holds 'two keys: another session is bound' test "$(unbound "${both[@]}" --sessio
 mkdir three
 keys make three
 holds 'two keys: no session is joined' test "$(unbound --key one/public-key.pem --key three/public-key.pem forged)" = False
-# a session that a page doesn't show in full has its key too
+# a session whose row is folded has its key too
 python3 -B - "$root/tools" verify --ssign "$program" "${both[@]}" --html several.html several >out 2>err <<'END'
 import sys
 sys.path.insert(0, sys.argv.pop(1))
-from ssign_keys import cli, page
-page.MOST_SESSIONS = 1
+from ssign_keys import cli, page_parts
+page_parts.TOP = 1
 sys.exit(cli.main(sys.argv[1:]))
 END
+holds 'a page of four sessions: three are folded' grep -q '<summary>3 more rows</summary>' several.html
 holds 'a page of four sessions: each key' test "$(grep -o 'key: [a-z]*/public-key.pem, SHA-256 [0-9a-f]*' several.html | sort | uniq -c | tr -s ' ')" = \
     "$(printf ' 2 key: %s/public-key.pem, SHA-256 %s\n' one "$spki" two "$spki_two")"
 

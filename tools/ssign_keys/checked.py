@@ -92,15 +92,19 @@ class Checked(NamedTuple):
 
     def lines(self) -> List[str]:
         """As lines for a person."""
-        said = [line for it in self.logs for line in it.lines()] + [key_words(it) for it in self.keys]
-        said += [f"{what}: {digest_words(it)}" for what, it in self.kept_files("counters", "from", "manifest") if it is not None]
+        logs = [line for it in self.logs for line in it.lines()]
+        return [f"Checked at {self.time}:", *(f"  {it}" for it in (*logs, *map(key_words, self.keys), *self.other_lines()))]
+
+    def other_lines(self) -> List[str]:
+        """What there is besides logs and keys, as lines for a person."""
+        said = [f"{what}: {digest_words(it)}" for what, it in self.kept_files("counters", "from", "manifest") if it is not None]
         said += [f"time stamp: {it.words()}" for it in self.stamps]
         answers = digest_words(self.answers._replace(name=self.answers.name or "not kept"))
         said += [f"answers: {answers}", f"program: {program_words(self.ssign)}", f"tool: {program_words(self.tool)}",
                  f"options: {quoted(self.options)}"]
         if self.machine is not None:
             said.append(f"machine: {shown_name(self.machine)}")
-        return [f"Checked at {self.time}:", *(f"  {it}" for it in said)]
+        return said
 
 
 def digest_fields(digest: Optional[Digest]) -> Optional[Dict[str, object]]:

@@ -16,12 +16,16 @@ class Markup:
         """The octets of a page as they stand there. Nobody else than this module's functions may make one of a text."""
         self.text = text
 
+    def __bool__(self) -> bool:
+        """Whether there is anything of it."""
+        return bool(self.text)
+
 
 Child = Union[str, Markup]
 # elements without contents, and those after which a line ends, so that a page can be read as a text
 EMPTY = frozenset(("meta", "br", "path", "rect"))
-LINES = frozenset(("h1", "h2", "h3", "h4", "p", "li", "ul", "tr", "table", "thead", "tbody", "div", "dl", "dd", "section",
-                   "main", "figure", "figcaption", "svg", "pre", "title", "caption", "meta", "style", "head", "body"))
+LINES = frozenset(("h1", "h2", "p", "li", "ul", "tr", "table", "thead", "tbody", "div", "dl", "dd", "section", "main", "figure",
+                   "figcaption", "details", "summary", "svg", "pre", "title", "caption", "meta", "style", "head", "body"))
 
 
 def escaped(text: str) -> str:
@@ -76,6 +80,11 @@ def swatch(kind: str) -> Markup:
 def legend(*items: Child) -> Markup:
     """A list of what colours and patterns mean."""
     return element("ul", {"class": "key"}, *(plain("li", it) for it in items))
+
+
+def folded(summary: str, *children: Child) -> Markup:
+    """What is shown where somebody opens it; on paper, only what it is."""
+    return plain("details", plain("summary", summary), *children)
 
 
 def code(text: str) -> Markup:

@@ -1,116 +1,85 @@
 """Shows a report as a page of HTML: one file without scripts, made of the same data as the text and the JSON.
 
-How long a page can get depends on its limits alone, not on the log: strips have bins, and lists are cut. `--json` has all.
+What matters leads: a sentence for each kind of finding, with its longest runs, then pictures, then the runs of each kind
+from the longest on. How long a page can get depends on its limits alone, not on the log. `--json` has all.
 """
 from __future__ import annotations
 
-from typing import BinaryIO, Dict, List, NamedTuple, Optional, Sequence, Tuple
+from typing import BinaryIO, Dict, Iterator, List, Sequence, Tuple
 
 from . import sha1
 from . import strangers
 from .blocks import Session
 from .damage import Damaged
-from .finder import Found, most_shown
+from .finder import most_shown
 from .identity import identity_lines
-from .markup import Child, Markup, code, element, joined, listing, named, plain, table
+from .longest import KINDS, NAMED, STRAYS, Longest, Run, Weighed, short, whose
+from .markup import Child, Markup, code, element, folded, joined, legend, listing, named, plain, swatch
 from .page_frame import front_of, write_page
-from .page_parts import checked_part, limits_part, repeat_part, verdict_part
-from .pairs import Neighbour, Stretch
+from .page_parts import (checked_part, cut, cut_table, foot, limits_part, repeat_part, verdict_part,
+                         with_part)
+from .pairs import Stretch
 from .report import Group
 from .reviewed import Reviewed
-from .stretch_visitor import StretchVisitor
-from .strips import Strip
-from .text_verdict import (STATES, after_words, blocks_words, group_words, neighbours_words, numbers_words, octets_words,
-                           outside_words, session_words, times_words)
-from .words import grouped, shown, shown_name
+from .strips import DRAWN, FINE, Strip
+from .summaries import FEW
+from .text_verdict import (STATES, after_words, group_words, neighbours_words, octets_words, order_words, place_words,
+                           times_words)
+from .words import grouped, shown_name
 
 # the first octets of a page, by which one is known
 FRONT = front_of("ssign-keys verify --html")
-# how many rows of a kind of finding are shown, sessions in full, sessions in a table, strips and pairs
-MOST_ROWS, MOST_SESSIONS, MOST_OTHERS, MOST_STRIPS, MOST_PAIRS = 200, 40, 500, 60, 100
+# how many rows of a kind of finding, sessions and strips there are, and how many strips aren't folded
+MOST_ROWS, MOST_SESSIONS, MOST_STRIPS, SHOWN_STRIPS = 200, 500, 60, 4
+HEADS = ("Where", "Between", "Text, or what it means")
 # how many characters all texts of messages have together; then each has so many at most
 MOST_TEXT, SHORT_TEXT = 300000, 120
-HEADS = ("Finding", "Where", "Time", "Text, or what it means")
-KINDS = {"lost": "missing", "disputed": "disputed", "hole": "unannounced", "refused": "unverified"}
 
 
-class Pair(NamedTuple):
-    """Missing numbers, and the places of what they likely became."""
-
-    group: Group
-    first: int
-    last: int
-    stretch: Stretch
-    places: Sequence[int]
-
-
-class Drawn(NamedTuple):
-    """A group of the present session, with its strip."""
-
-    group: Group
-    strip: Strip
-
-
-class Page(StretchVisitor):
+class Page(Weighed):
     """Collects what a page has, as the report is read."""
 
     def __init__(self, reviewed: Reviewed, other_findings: Sequence[Tuple[str, str]]) -> None:
         """Findings that a report doesn't have, as those of a manifest: each with where it is, and what it is."""
-        super().__init__(reviewed.survey)
+        super().__init__(reviewed.survey, MOST_ROWS)
         self._reviewed = reviewed
         self._times = reviewed.detailed().times
-        # how many rows of each kind there are, and those that are shown
+        # the rows of kinds without runs, and how many there are
+        self._rows: Dict[str, List[List[Child]]] = {}
         self._counts: Dict[str, int] = {}
-        self._rows: List[List[Child]] = []
         self._text_left = MOST_TEXT
         self._session = Session(b"", b"", b"", b"")
-        self._sessions: List[Markup] = []
-        self._others: List[List[Child]] = []
-        self._other_count = 0
-        self._session_lines: List[str] = []
-        self._groups: Dict[Tuple[int, int], Drawn] = {}
-        self._strips = 0
+        # what is known of the present session, where it is joined
+        self._known: List[str] = []
+        self._groups: Dict[Tuple[int, int], Strip] = {}
+        self._sessions: Longest[List[Child]] = Longest(MOST_SESSIONS)
+        self._strips: Longest[Strip] = Longest(MOST_STRIPS)
         # the first and the last number of each group that a line is about
         self._spans = {(it.session, it.sg, it.spri): (it.first, max(it.last, (it.next_number or 1) - 1))
                        for it in reviewed.survey.reach}
-        self._pairs: List[Pair] = []
-        self._pair_count = 0
-        self._places = Strip(0, reviewed.survey.totals.messages - 1)
+        self._places = Strip((None, -1, -1), 0, reviewed.survey.totals.messages - 1)
         for where, what in other_findings:
-            if self._takes("manifest"):
-                self._add("manifest", named(where), "", named(what))
+            self._add("manifest", named(where), named(what))
 
     # ---- findings
 
-    def _takes(self, kind: str) -> bool:
-        """Counts a finding. Whether there is room for another row of its kind: what isn't shown isn't made."""
-        count = self._counts[kind] = self._counts.get(kind, 0) + 1
-        return count <= MOST_ROWS
+    def _add(self, kind: str, where: Child, what: Child) -> None:
+        """Counts a finding of a kind without runs, and adds its row."""
+        self._counts[kind] = self._counts.get(kind, 0) + 1
+        if self._counts[kind] <= MOST_ROWS:
+            self._rows.setdefault(kind, []).append([where, "", what])
 
-    def _add(self, kind: str, *cells: Child) -> None:
-        """Adds a row of a finding that was counted."""
-        self._rows.append([plain("strong", kind), *cells])
-
-    def _between(self, before: Optional[Neighbour], behind: Optional[Neighbour]) -> Markup:
-        """Between which times something was sent, by its neighbours."""
-        sides = [(side, self._times.of_neighbour(it)) for side, it in (("after", before), ("before", behind)) if it is not None]
-        said = [time(f"{side} {'a message without a time' if stamp in (None, '-') else stamp}") for side, stamp in sides]
-        return joined(*said[:1], *(joined(", ", it) for it in said[1:]))
-
-    def _text(self, found: Found, kind: str) -> Markup:
-        """The text of a message as JSON has it, or less of it where all texts together are too long."""
-        text, rest = found.text, ""
-        if len(text) > max(self._text_left, SHORT_TEXT):
-            text, rest = text[:SHORT_TEXT], " .."
-        self._text_left -= len(text)
-        if rest or found.octets > most_shown(kind):
-            rest = f" .. ({grouped(found.octets, 'octet')})"
-        return joined(code(text), rest)
-
-    @staticmethod
-    def _where(found: Found) -> Markup:
-        """The file and the place of a message."""
-        return joined(named(shown_name(found.file)), f", place {found.place}")
+    def _between(self, stretch: Stretch, has_numbers: bool) -> Markup:
+        """Between which times something was sent, by its neighbours, and perhaps which these are."""
+        said: List[Markup] = []
+        for side, it in (("after", stretch.before), ("before", stretch.behind)):
+            if it is not None:
+                number = f" number {it[0]} at place {it[1]}, of" if has_numbers else ""
+                stamp = self._times.of_neighbour(it)
+                time = "a message without a time" if stamp in (None, "-") else str(stamp)
+                said.append(joined("; " if said and has_numbers else ", " if said else "", side, number, " ",
+                                   element("span", {"class": "time"}, time)))
+        return joined(*said)
 
     # ---- sessions and groups
 
@@ -120,151 +89,82 @@ class Page(StretchVisitor):
         super().session(session, state)
         self._session = session
         facts = self._reviewed.notes.of(session)
-        lines = [f"state: {state}; {STATES[state]}"]
-        lines += [] if facts is None else identity_lines(facts.finding)
+        lines = [] if facts is None else identity_lines(facts.finding)
         weakness = sha1.weakness(facts, state)
         if weakness is not None:
             lines.append(weakness)
-            if self._takes("SHA-1"):
-                self._add("SHA-1", named(short(session)), "", weakness)
+            self._add("SHA-1", named(short(session)), weakness)
         of_strangers = self._reviewed.facts.strangers.get(session, strangers.NO_CLAIMS)
         if of_strangers.blocks:
             lines.append(strangers.words_of(of_strangers))
-            if self._takes("strangers"):
-                self._add("strangers", named(short(session)), "", strangers.words_of(of_strangers))
+            self._add("strangers", named(short(session)), lines[-1])
         if state == "joined":
-            lines.append(times_words(*self._times.of_session(session)))
-            self._session_lines = lines
-            return
-        self._session_lines = []
-        why = f"{state}; {STATES[state]}" + (f". Why: {facts.finding.why}" if facts is not None and facts.finding.why else "")
-        if self._takes("session"):
-            self._add("session", named(short(session)), "", named(why))
-        self._other(session, lines[0], "; ".join(lines[1:]))
-
-    def _other(self, session: Session, state: str, more: str) -> None:
-        """Adds a session that isn't shown in full."""
-        self._other_count += 1
-        if len(self._others) < MOST_OTHERS:
-            self._others.append([named(short(session)), state, named(more)])
+            self._known = [f"state: {state}; {STATES[state]}", *lines, times_words(*self._times.of_session(session))]
+        else:
+            self._add("not joined", named(short(session)), named("; ".join([state, STATES[state], *lines])))
 
     def begin_group(self, group: Group) -> None:
         """Begins a strip."""
         super().begin_group(group)
-        self._groups[group.sg, group.spri] = Drawn(group, self._new_strip(group.sg, group.spri))
+        self._strip(group.sg, group.spri)
 
-    def _new_strip(self, sg: int, spri: int) -> Strip:
-        first, last = self._spans.get((self._session, sg, spri), (1, 1))
-        return Strip(self._first_of(sg, spri, first), last)
-
-    def _first_of(self, sg: int, spri: int, first: int) -> int:
-        """Where a strip begins: with 1, or with the night or an announced number before it."""
-        if self.begin is None:
-            return 1
-        return min(first, max(1, self.begin.next_number(self._session, sg, spri) or 1))
+    def _strip(self, sg: int, spri: int) -> Strip:
+        """The strip of a group, which begins with 1, or with the night or an announced number before it."""
+        if (sg, spri) not in self._groups:
+            first, last = self._spans.get((self._session, sg, spri), (1, 1))
+            night = 1 if self.begin is None else max(1, self.begin.next_number(self._session, sg, spri) or 1)
+            self._groups[sg, spri] = Strip((self._session, sg, spri), min(first, night), last)
+        return self._groups[sg, spri]
 
     def listed(self, group: Group, numbers: Sequence[int], places: Sequence[int]) -> None:
         """Draws listed numbers."""
         super().listed(group, numbers, places)
-        self._groups[group.sg, group.spri].strip.take(numbers[0], numbers[-1], "listed")
+        self._strip(group.sg, group.spri).take(numbers[0], numbers[-1], "listed")
 
-    def stretch(self, group: Group, stretch: Stretch) -> None:
-        """Draws numbers that aren't listed, and adds a row."""
-        kind = KINDS[stretch.kind]
-        self._groups[group.sg, group.spri].strip.take(stretch.first, stretch.last, kind)
-        if self._takes(kind):
-            where = joined(whose(group.session, group.sg, group.spri), f", {numbers_words(stretch.first, stretch.last)}")
-            self._add(kind, where, self._between(stretch.before, stretch.behind), neighbours_words(stretch))
-        if not stretch.is_paired:
-            return
-        self._pair_count += stretch.length if stretch.is_matched else 1
-        room = MOST_PAIRS - len(self._pairs)
-        if stretch.is_matched:
-            self._pairs += [Pair(group, it, it, stretch, stretch.likely_of(it))
-                            for it in range(stretch.first, min(stretch.last + 1, stretch.first + room))]
-        elif room > 0:
-            self._pairs.append(Pair(group, stretch.first, stretch.last, stretch, stretch.likely))
+    def taken(self, kind: str, run: Run) -> None:
+        """Draws numbers that aren't listed."""
+        super().taken(kind, run)
+        if run.sg >= 0 and kind not in ("early", "beyond"):
+            self._strip(run.sg, run.spri).take(run.stretch.first, run.stretch.last, kind)
 
-    def outside(self, session: Session, sg: int, spri: int, first: int, last: int, is_early: bool) -> None:
-        """Adds a row of announced numbers that don't belong to the night."""
-        kind = "early" if is_early else "beyond"
-        if self._takes(kind):
-            self._add(kind, joined(whose(session, sg, spri), f", {numbers_words(first, last)}"), "", outside_words(is_early))
-
-    def tail_after(self, session: Session, sg: int, spri: int, first: int, last: int, before: Optional[Neighbour]) -> None:
-        """Draws what is missing up to a counter, and adds a row."""
-        drawn = self._groups.get((sg, spri)) or Drawn(Group(session, sg, spri), self._new_strip(sg, spri))
-        self._groups[sg, spri] = drawn
-        drawn.strip.take(first, last, "tail")
-        if self._takes("missing up to the counters"):
-            where = joined(whose(session, sg, spri), f", {numbers_words(first, last)}")
-            self._add("missing up to the counters", where, self._between(before, None),
-                      "missing or unlisted; no verified block announces it or a later number")
-
-    def missing_blocks(self, session: Session, first: int, last: int) -> None:
-        """Adds a row of missing signature blocks."""
-        if self._takes("missing blocks"):
-            span = f"GBC {first}" if first == last else f"GBC {first} to {last} ({last - first + 1:,} blocks)"
-            self._add("missing blocks", joined(named(short(session)), f", {span}"), "", blocks_words(first, last))
+    def end_group(self, group: Group) -> None:
+        """Adds a row where the order isn't that of the numbers."""
+        super().end_group(group)
+        if group.out_of_order:
+            self._add("out of order", named(whose(group.session, group.sg, group.spri)), order_words(group))
 
     def _end_session(self) -> None:
-        """Shows the session whose lines were read."""
-        drawn, self._groups = self._groups, {}
-        if not self._session_lines:
-            return
-        lines, self._session_lines = self._session_lines, []
-        if len(self._sessions) >= MOST_SESSIONS:
-            counts = "; ".join(f"{group_words(*key)}: {it.strip.text()}" for key, it in list(drawn.items())[:MOST_ROWS])
-            self._other(self._session, lines[0], "; ".join([*lines[1:], counts]))
-            return
-        pieces: List[Child] = [plain("h3", "Session: ", named(session_words(self._session))),
-                               listing(*(named(it) for it in lines))]
-        for (sg, spri), it in drawn.items():
-            pieces.append(plain("h4", f"Group: {group_words(sg, spri)}"))
-            pieces += self._group(it)
-        self._sessions.append(plain("section", *pieces))
-
-    def _group(self, drawn: Drawn) -> List[Markup]:
-        """The strip of a group, and its order."""
-        group, self._strips = drawn.group, self._strips + 1
-        title = f"By number, 1 to {drawn.strip.last:,}"
-        pieces = [drawn.strip.picture(title, "number") if self._strips <= MOST_STRIPS else
-                  plain("p", f"{title}: {drawn.strip.text()}.")]
-        if group.out_of_order:
-            stand = grouped(group.out_of_order, "listed message stands", "listed messages stand")
-            pieces.append(plain("p", f"Order: {stand} in front of the one with the number before; the first is number "
-                                     f"{group.first_out_of_order}."))
-        elif group.listed > 1:
-            pieces.append(plain("p", "Order: the places of the listed messages rise with their numbers."))
-        return pieces
+        """Keeps the session whose lines were read, and its strips."""
+        drawn, self._groups = list(self._groups.values()), {}
+        known, self._known = self._known, []
+        for it in drawn:
+            self._strips.add(it.found, it)
+        if known:
+            groups = [f"{group_words(*it.group[1:])}: {it.text()}" for it in drawn[:FEW]]
+            groups += [f"and {grouped(len(drawn) - FEW, 'more group')}"] if len(drawn) > FEW else []
+            self._sessions.add(sum(it.found for it in drawn),
+                               [named(short(self._session)), listing(*map(named, [*known, *groups]))])
 
     # ---- messages by their places
 
     def stray(self, kind: str, place: int, cause: str) -> None:
-        """Draws a message that is unlisted, refused or spoilt, and adds a row."""
-        word = KINDS.get(kind, kind)
-        self._places.take(place, place, word)
-        if not self._takes(word):
-            return
-        found = self._reviewed.finder.find(place, most_shown(kind))
-        self._add(word, self._where(found), time(said_time(found)),
-                  joined(f"{cause}: " if cause else "", self._text(found, kind)))
+        """Draws a message that is unlisted, refused or spoilt."""
+        super().stray(kind, place, cause)
+        self._places.take(place, place, STRAYS[kind])
 
     def damaged(self, stretch: Damaged) -> None:
         """Draws damaged octets at the message after them, or at the last one, and adds the rows of the longest at once."""
-        at = min(stretch.place, self._places.last)
-        self._places.take(at, at, "damaged")
+        place = min(stretch.place, self._places.last)
+        self._places.take(place, place, "damaged")
+        if self.totals.damaged == 1:
+            log = self._reviewed.log
+            for it in sorted(self._reviewed.survey.damage.longest(MOST_ROWS), key=lambda it: -it.length):
+                self._add("damaged", self._octet(it.offset), named(f"{grouped(it.length, 'octet')}, {after_words(log, it)}"))
         self._counts["damaged"] = self.totals.damaged
-        if self.totals.damaged > 1:
-            return
-        log = self._reviewed.log
-        for it in self._reviewed.survey.damage.longest(MOST_ROWS):
-            self._add("damaged", self._octet(it.offset), "", named(f"{grouped(it.length, 'octet')}, {after_words(log, it)}"))
 
     def torn(self, offset: int) -> None:
         """Adds a row."""
-        if self._takes("torn"):
-            self._add("torn", self._octet(offset), "", "the log breaks off in the message that begins there")
+        self._add("torn", self._octet(offset), "the log breaks off in the message that begins there")
 
     def _octet(self, offset: int) -> Markup:
         """The file and the octet of it."""
@@ -273,18 +173,19 @@ class Page(StretchVisitor):
 
     def end(self, count: int) -> None:
         """Draws what no line is about, or is listed."""
+        super().end(count)
         self._end_session()
-        strip, survey, totals = self._places, self._reviewed.survey, self.totals
+        strip, survey = self._places, self._reviewed.survey
         strays = dict(strip.counts)
-        if count:
-            for at in range(strip.size):
-                numbers = strip.range_of(at)
-                if survey.count_named(numbers.start, numbers.stop):
-                    strip.take(numbers.start, numbers.start, "listed")
-                else:
-                    strip.take(numbers.start, numbers.start, "verified")
+        for at in range(strip.size if count else 0):
+            numbers = strip.range_of(at)
+            named_ones = survey.count_named(numbers.start, numbers.stop)
+            if named_ones > strip.count_in(at, STRAYS.values()):
+                strip.take(numbers.start, numbers.start, "listed")
+            elif named_ones < len(numbers):
+                strip.take(numbers.start, numbers.start, "verified")
         # the bins are right, and these are the counts
-        strip.counts = {key: it for key, it in (("listed", totals.listed), ("verified", survey.verified)) if it}
+        strip.counts = {key: it for key, it in (("listed", self.totals.listed), ("verified", survey.verified)) if it}
         strip.counts.update(strays)
 
     # ---- the page
@@ -292,83 +193,113 @@ class Page(StretchVisitor):
     def write(self, out: BinaryIO) -> None:
         """Writes the page into a passing file."""
         reviewed, checked = self._reviewed, self._reviewed.detailed().checked
-        clean = reviewed.facts.status == 0
-        word = "Clean" if clean else "Findings" if self.totals.listed else "Nothing is shown"
-        pieces = [verdict_part(reviewed, self.totals, self.missing, word), self._findings(), *self._likely(), self._sessions_part(),
-                  self._places_part(), checked_part(checked), limits_part(reviewed), repeat_part(checked, reviewed.facts.status)]
-        write_page(out, FRONT, f"{word}: check of a signed log, {checked.time}", pieces)
+        status = reviewed.facts.status
+        word = "Clean" if status == 0 else "Findings" if self.totals.listed else "Nothing is shown"
+        pieces = [verdict_part(reviewed, word, self._leads()), checked_part(checked), self._pictures(),
+                  *self._findings(), self._sessions_part(), limits_part(reviewed), repeat_part(checked, status),
+                  with_part(checked)]
+        write_page(out, FRONT, f"{word}: check of a signed log, {checked.time}", pieces, foot(checked))
 
-    def _findings(self) -> Markup:
-        """The table of findings."""
-        total = sum(self._counts.values())
-        heading = plain("h2", f"Findings ({total:,})")
-        if not total:
-            return plain("section", heading, plain("p", "None."))
-        cut = [f"{count - MOST_ROWS:,} more: {kind}" for kind, count in self._counts.items() if count > MOST_ROWS]
-        more = [plain("p", f"Not shown: {'; '.join(cut)}. ssign-keys verify --json has all.")] if cut else []
-        caption = "Times are those that messages state, by their senders' own clocks. The time of a finding's own message is " \
-            "as unsure as the message."
-        return plain("section", heading, table("findings", caption, HEADS, self._rows), *more)
+    def _count(self, kind: str) -> int:
+        """How many numbers, messages or other findings of a kind there are."""
+        return self.runs[kind].numbers + self._counts.get(kind, 0)
 
-    def _likely(self) -> List[Markup]:
-        """The table of likely pairs."""
-        if not self._pairs:
-            return []
+    def _leads(self) -> Iterator[Markup]:
+        """A sentence for each kind of finding, with its longest runs."""
+        for kind, its in KINDS.items():
+            count, runs = self._count(kind), self.runs[kind]
+            if not count:
+                continue
+            # these are counted with the numbers that may be theirs
+            others = self.totals.unlisted - self.runs["unlisted"].numbers
+            other = "other " if kind == "unlisted" and others else ""
+            ways: List[Child] = []
+            for at, it in enumerate(runs.longest()[:NAMED]):
+                between = self._between(it.stretch, False)
+                ways += ["; " if at else ": ", named(it.words(self.has_one_group)), ", " if between else "", between]
+            more = f"; and {grouped(runs.entries - NAMED, 'more run')}" if runs.entries > NAMED else ""
+            others -= self.runs["changed or replaced"].numbers
+            if kind == "unannounced" and others:
+                more += f"; {grouped(others, 'unlisted message')} may be {'its' if count == 1 else 'their'} own"
+            yield joined(plain("strong", its.counted(count, other)), *ways, more, ".")
+
+    def _pictures(self) -> Markup:
+        """The strips: those with findings, or one, and the others folded."""
+        strips, count = self._strips.longest(), self.totals.messages
+        titles = [(it, f"{whose(*it.group)}, numbers {it.first:,} to {it.last:,}", "number") for it in strips]
+        if count:
+            titles.append((self._places, f"All stored messages, places 0 to {count - 1:,}", "place"))
+        titles.sort(key=lambda it: not it[0].found)
+        pictures = [it.picture(title, unit, self.runs) for it, title, unit in titles]
+        shown = max(1, min(SHOWN_STRIPS, sum(it.found > 0 for it, _, _ in titles)))
+        kinds = {kind for it, _, _ in titles for kind in it.kinds}
+        key = legend(*(joined(swatch(it.replace(" ", "-")), f"{it}{FINE.get(it, '')}") for it in DRAWN if it in kinds))
+        more = [folded(grouped(len(pictures) - shown, "more picture"), *pictures[shown:])] if len(pictures) > shown else []
+        return plain("section", plain("h2", "The log in pictures"), *pictures[:shown], *([key] if kinds else []), *more,
+                     *cut(self._strips.entries - len(strips), "more picture"))
+
+    def _findings(self) -> List[Markup]:
+        """The tables of all kinds."""
+        chosen: Dict[str, List[Tuple[Run, Sequence[int]]]] = {}
+        wanted: Dict[int, str] = {}
+        for kind, runs in self.runs.items():
+            room = MOST_ROWS
+            for run in runs.longest():
+                places = self._places_of(run, max(room, NAMED))
+                room -= len(places)
+                chosen.setdefault(kind, []).append((run, places))
+                wanted.update(dict.fromkeys(places, kind))
         # texts are looked up by rising place, in one walk
-        places = sorted({place for it in self._pairs for place in it.places})
-        found = {place: self._reviewed.finder.find(place, most_shown("unlisted")) for place in places}
-        rows: List[List[Child]] = []
-        for it in self._pairs:
-            missing = joined(whose(it.group.session, it.group.sg, it.group.spri), f", {numbers_words(it.first, it.last)}")
-            became = [joined(self._where(found[at]), ", ", time(said_time(found[at])), ": ", self._text(found[at], "unlisted"))
-                      for at in it.places]
-            became += [named(octets_words(self._reviewed.log, damaged, "damaged octet")) for damaged in it.stretch.damaged]
-            rows.append([missing, self._between(it.stretch.before, it.stretch.behind),
-                         became[0] if len(became) == 1 else listing(*became)])
-        has_damage = any(it.stretch.damaged for it in self._pairs)
-        heads = ("Missing", "Sent", f"Unlisted{' or damaged' if has_damage else ''}, between the same neighbours")
-        more = self._pair_count - len(self._pairs)
-        rest = [plain("p", f"Not shown: {grouped(more, 'more likely pair')}. ssign-keys verify --json has all.")] if more else []
-        caption = "A hash can't show its message, so this is no more than likely: the missing message was probably changed " \
-            f"into the unlisted one beside it{', or is in the damaged octets' if has_damage else ''}."
-        return [plain("section", plain("h2", f"Likely pairs ({self._pair_count:,})"), table("pairs", caption, heads, rows), *rest)]
+        texts = {place: self._text(place, wanted[place]) for place in sorted(wanted)}
+        made = []
+        for kind, its in KINDS.items():
+            rows = [self._row(run, places, texts) for run, places in chosen.get(kind, [])] + self._rows.get(kind, [])
+            if rows:
+                made.append(plain("section", plain("h2", f"{kind[0].upper()}{kind[1:]} ({self._count(kind):,})"),
+                                  *cut_table(kind.replace(" ", "-"), f"{its.meaning[0].upper()}{its.meaning[1:]}.", HEADS, rows,
+                                             self.runs[kind].entries + self._counts.get(kind, 0))))
+        return made
+
+    def _places_of(self, run: Run, most: int) -> Sequence[int]:
+        """The places of so many messages that are shown with a run."""
+        if run.session is None:
+            return range(run.stretch.first, run.stretch.last + 1)[:most]
+        stored = run.stored[:most]
+        return self._reviewed.survey.unlisted[stored.start:stored.stop]
+
+    def _row(self, run: Run, places: Sequence[int], found: Dict[int, Markup]) -> List[Child]:
+        """The row of a run, with the first messages that are, or may be, its own."""
+        stretch = run.stretch
+        if run.session is None and stretch.length == 1:
+            where = named(place_words(self._reviewed.log, places[0]))
+            return [where, "", joined(f"{run.cause}: " if run.cause else "", found[places[0]])]
+        more = (stretch.length if run.session is None else len(run.stored)) - len(places)
+        texts = [joined(named(place_words(self._reviewed.log, it)), ": ", found[it]) for it in places]
+        items: List[Child] = [*texts[:NAMED], *(named(octets_words(self._reviewed.log, it, "damaged octet"))
+                                                for it in stretch.damaged)]
+        if len(texts) > NAMED:
+            items.append(folded(grouped(len(texts) - NAMED, "more message"), listing(*texts[NAMED:])))
+        if more:
+            items.append(f"and {grouped(more, 'more message')}")
+        what = items[0] if len(items) == 1 else listing(*items) if items else ""
+        between = self._between(stretch, True) or (neighbours_words(stretch) if stretch.kind else "")
+        return [named(run.words(self.has_one_group)), between, joined(f"{run.cause}: ", what) if run.cause else what]
+
+    def _text(self, place: int, kind: str) -> Markup:
+        """The text of a message as JSON has it, or less of it where all texts together are too long."""
+        most = most_shown("unlisted" if kind not in STRAYS.values() else kind)
+        found = self._reviewed.finder.find(place, most)
+        text, rest = found.text, ""
+        if len(text) > max(self._text_left, SHORT_TEXT):
+            text, rest = text[:SHORT_TEXT], " .."
+        self._text_left -= len(text)
+        if rest or found.octets > most:
+            rest = f" .. ({grouped(found.octets, 'octet')})"
+        return joined(code(text), rest)
 
     def _sessions_part(self) -> Markup:
-        """All sessions."""
-        pieces: List[Markup] = [plain("h2", "Sessions and their numbers"), *self._sessions]
-        if not (self._sessions or self._others):
-            pieces.append(plain("p", "The log has no block, so it has no session."))
-        if self._others:
-            more = self._other_count - len(self._others)
-            pieces.append(table("sessions", "Sessions that aren't joined, or aren't drawn", ("Session", "State", "More"),
-                                self._others))
-            pieces += [plain("p", f"Not shown: {grouped(more, 'more session')}.")] if more else []
-        return plain("section", *pieces)
-
-    def _places_part(self) -> Markup:
-        """All stored messages, in their order."""
-        count = self._reviewed.survey.totals.messages
-        heading = plain("h2", "Stored messages, in their order")
-        if not count:
-            return plain("section", heading, plain("p", "The log has no whole message."))
-        return plain("section", heading, self._places.picture(f"By place, 0 to {count - 1:,}", "place"))
-
-
-def said_time(found: Found) -> str:
-    """The time that a message states."""
-    return "states no time" if found.timestamp in (None, "-") else str(found.timestamp)
-
-
-def time(text: str) -> Markup:
-    """A text with a time, which isn't broken into lines."""
-    return element("span", {"class": "time"}, text)
-
-
-def short(session: Session) -> str:
-    """The four words of a session, as in a report."""
-    return " ".join(map(shown, session))
-
-
-def whose(session: Session, sg: int, spri: int) -> Markup:
-    """A session and its group."""
-    return joined(named(short(session)), f", SG {sg}, SPRI {spri}")
+        """The sessions that are joined."""
+        rows = self._sessions.longest()
+        return plain("section", plain("h2", f"Sessions ({self._sessions.entries:,})"), *(
+            cut_table("sessions", "Sessions that are joined", ("Session", "What is known of it"), rows, self._sessions.entries)
+            if rows else [plain("p", "No session is joined." if self.states else "The log has no block, so it has no session.")]))

@@ -1,113 +1,85 @@
 """The parts of a page that don't depend on the lines of a report: the verdict, what was checked, and what isn't covered."""
 from __future__ import annotations
 
-from typing import List, Optional, Tuple
+from typing import Iterable, List, Sequence
 
-from .checked import Checked, CheckedLog, digest_words
-from .digests import Digest
-from .identity import certificate_words
-from .markup import Child, Markup, code, element, joined, listing, named, plain, table
+from .checked import Checked, key_words
+from .markup import Child, Markup, element, folded, joined, listing, named, plain, table
+from .longest import whose
 from .options_given import REPEATED_NOT, command_of, quoted
-from .program_facts import Program
-from .report import Totals
 from .reviewed import Reviewed
 from .summaries import FEW
 from .text_verdict import counters_words, reach_words
-from .trust import Given
 from .verdict import sentence
-from .words import grouped, shown, shown_name
+from .words import grouped, shown_name
 
-# how many logs, keys and groups are shown
-MOST_LOGS, MOST_KEYS = 300, 100
+# how many rows and lines of a list are shown; the others are folded
+TOP = 12
+# how many logs and keys are shown, and how many letters of a name at the foot of a sheet
+MOST_LOGS, MOST_KEYS, MOST_NAME = 300, 100, 60
 
 
-def verdict_part(reviewed: Reviewed, totals: Totals, missing_blocks: Optional[int], word: str) -> Markup:
-    """The verdict first, then its counts."""
-    facts, checked = reviewed.facts, reviewed.detailed().checked
+def verdict_part(reviewed: Reviewed, word: str, leads: Iterable[Child]) -> Markup:
+    """The verdict first, with a sentence for each kind of finding."""
+    facts, totals, checked = reviewed.facts, reviewed.survey.totals, reviewed.detailed().checked
     sign = element("span", {"aria-hidden": "true"}, "✓ " if facts.status == 0 else "✗ ")
-    box = element("div", {"class": f"verdict {'good' if facts.status == 0 else 'bad'}", "id": "verdict"},
-                  plain("strong", sign, word), element("span", {"id": "sentence"}, sentence(facts)))
-    counts: List[Tuple[str, int, str]] = [
-        ("listed", totals.listed, "stored exactly as they were signed"),
-        ("missing", totals.lost, "announced, and no stored message is listed for them"),
-        ("disputed", totals.disputed, "announced with two different messages"),
-        ("unannounced", totals.unannounced, "numbers that no verified block announces, before later ones"),
-        ("unlisted", totals.unlisted, "stored, and no number lists them"),
-        ("verified", reviewed.survey.verified, "blocks with a valid signature by the trusted key"),
-        ("unverified", totals.refused, "other blocks"),
-        ("spoilt", totals.spoilt, "messages with a block's element that are no blocks"),
-        ("damaged", totals.damaged, f"stretches of octets that are no message ({grouped(totals.damaged_octets, 'octet')})"),
-    ]
-    if reviewed.counters is not None:
-        counts.insert(4, ("missing up to the counters", totals.tails, "missing or unlisted, by the counters"))
-    if reviewed.begin is not None:
-        counts[4:4] = [("early", totals.early, "announced, and below the counters that the night begins with"),
-                       ("beyond", totals.beyond, "announced, and not below the counters that the night ends with")]
-    if missing_blocks is not None:
-        counts.insert(5 if reviewed.begin is None else 6, ("missing blocks", missing_blocks, "signature blocks that are missing or unverified"))
-    rows: List[List[Child]] = [[name, f"{count:,}", what] for name, count, what in counts]
     stored = f"The log has {grouped(totals.messages, 'stored message')}" + ("." if totals.torn is None else ", and breaks off.")
     return plain("section", plain("h1", "Check of a signed log"),
                  element("p", {"class": "dim"}, f"Made at {checked.time} by {checked.tool.version} and "
-                         f"{checked.ssign.version or 'an unknown ssign'}. Status {facts.status}."), box,
-                 plain("p", stored), table("counts", "Counts of the verdict", ("Word", "Count", "What it counts"), rows))
+                         f"{checked.ssign.version or 'an unknown ssign'}. Status {facts.status}. {stored}"),
+                 element("div", {"class": f"verdict {'good' if facts.status == 0 else 'bad'}", "id": "verdict"},
+                         plain("strong", sign, word), element("span", {"id": "sentence"}, sentence(facts)),
+                         listing(*leads)))
 
 
-def checked_part(checked: Checked) -> Markup:
-    """The files, the keys and the programs."""
-    logs: List[List[Child]] = [log_row(it) for it in checked.logs[:MOST_LOGS]]
-    pieces = [plain("h2", "What was checked"),
-              table("files", "The log: these files, one after another, in this order",
-                    ("File", "Octets", "SHA-256", "Messages", "Places"), logs)]
-    pieces += cut(len(checked.logs) - MOST_LOGS, "more file")
-    keys: List[List[Child]] = [key_row(it) for it in checked.keys[:MOST_KEYS]]
-    pieces.append(table("keys", "Keys and certificates that were given", ("Option", "File", "For the session",
-                                                                          "SHA-256 of the key", "Certificate"), keys))
-    pieces += cut(len(checked.keys) - MOST_KEYS, "more key")
-    rows: List[List[Child]] = [[what, code(digest_words(it)) if it else "none"]
-                               for what, it in checked.kept_files("Counters", "From counters", "Manifest")]
-    rows += [["Time stamp", code(it.words())] for it in checked.stamps]
-    rows.append(["Answers", code(answers_words(checked.answers))])
-    rows += [["Program", program_cell(checked.ssign)], ["Tool", program_cell(checked.tool)],
-             ["Options", code(quoted(checked.options) or "none")], ["Time of the check", checked.time]]
-    if checked.machine is not None:
-        rows.append(["Machine", named(shown_name(checked.machine))])
-    pieces.append(table("with", "With what, and when", ("What", "Value"), rows))
-    return plain("section", *pieces)
-
-
-def log_row(log: CheckedLog) -> List[Child]:
-    """A file of the log."""
-    digest, packed = log.digest, []
-    if log.plain is not None and log.packed is not None:
-        packed = [joined(f"; compressed by {log.packed.form}, expanded {grouped(log.plain.size, 'octet')} with the SHA-256 ",
-                         code(log.plain.sha256))]
-    places = f"{log.place:,} to {log.last_place:,}" if log.last_place is not None else "none"
-    return [named(shown_name(digest.name)), f"{digest.size:,}", joined(code(digest.sha256), *packed), f"{log.messages:,}", places]
-
-
-def key_row(given: Given) -> List[Child]:
-    """A key."""
-    certificate: Child = "" if given.certificate is None else named(certificate_words(given.certificate))
-    session: Child = "" if given.session is None else named(given.session)
-    return [given.option, named(shown_name(given.file)), session, code(given.fingerprint or "-"), certificate]
-
-
-def answers_words(answers: Digest) -> str:
-    """The answers file."""
-    return digest_words(answers._replace(name=answers.name or "not kept"))
-
-
-def program_cell(program: Program) -> Markup:
-    """A program."""
-    whose = f" ({program.named})" if program.named else ""
-    return joined(f"{program.version or 'states no version'}, ", named(shown_name(program.path)), f"{whose}, SHA-256 ",
-                  code(program.sha256 or "unknown"))
+def cut_table(name: str, caption: str, heads: Sequence[str], rows: Sequence[Sequence[Child]], count: int) -> List[Markup]:
+    """A table of so many entries: its first rows, the others that are kept, folded, and how many aren't shown. What is empty
+    in all rows is left out."""
+    used = [at for at in range(len(heads)) if any(row[at] for row in rows)]
+    heads, rows = [heads[at] for at in used], [[row[at] for at in used] for row in rows]
+    pieces = [table(name, caption, heads, rows[:TOP])]
+    if len(rows) > TOP:
+        pieces.append(folded(grouped(len(rows) - TOP, "more row"), table(f"{name}-more", caption, heads, rows[TOP:])))
+    return pieces + cut(count - len(rows), "more row")
 
 
 def cut(count: int, what: str) -> List[Markup]:
     """How much of a list isn't shown."""
     return [plain("p", f"Not shown: {grouped(count, what)}. ssign-keys verify --json has all.")] if count > 0 else []
+
+
+def checked_part(checked: Checked) -> Markup:
+    """The logs and the keys, in the lines of the text."""
+    logs = [line for it in checked.logs[:MOST_LOGS] for line in it.lines()]
+    keys = [key_words(it) for it in checked.keys[:MOST_KEYS]]
+    return plain("section", *cut_list("logs", logs), *cut(len(checked.logs) - MOST_LOGS, "more log"),
+                 *cut_list("keys", keys), *cut(len(checked.keys) - MOST_KEYS, "more key"))
+
+
+def with_part(checked: Checked) -> Markup:
+    """With what the logs were checked."""
+    return plain("section", plain("h2", "With what, and when"), *cut_list("with", checked.other_lines()))
+
+
+def cut_list(name: str, lines: Sequence[str]) -> List[Markup]:
+    """A list of lines: the first ones, and the others folded."""
+    more = [folded(grouped(len(lines) - TOP, "more line"), listing(*map(named, lines[TOP:])))] if len(lines) > TOP else []
+    return [element("ul", {"id": name}, *(plain("li", named(it)) for it in lines[:TOP])), *more]
+
+
+def foot(checked: Checked) -> str:
+    """The style of what stands below each sheet of paper: the first log with its SHA-256, and the sheet's number."""
+    digest, more = checked.logs[0].digest, len(checked.logs) - 1
+    others = f", and {grouped(more, 'more log')}" if more else ""
+    text = f"{shown_name(digest.name)[:MOST_NAME]}, SHA-256 {digest.sha256}{others}"
+    font = "font:7pt system-ui,sans-serif"
+    return (f'@page{{@bottom-left{{content:"{css_text(text)}";{font}}}'
+            f'@bottom-right{{content:counter(page) " / " counter(pages);{font}}}}}\n')
+
+
+def css_text(text: str) -> str:
+    """A text between quotes in a style, in which no letter of it ends the quotes or the style."""
+    return "".join(it if it.isascii() and it.isalnum() or it in " .,-" else f"\\{ord(it):06x} " for it in text)
 
 
 def limits_part(reviewed: Reviewed) -> Markup:
@@ -118,14 +90,15 @@ def limits_part(reviewed: Reviewed) -> Markup:
     items: List[Child] = []
     for it in reach[:4 * FEW]:
         further = f"; {counters_words(it)}" if has_counters else ""
-        items.append(joined(named(" ".join(map(shown, it.session))), f", SG {it.sg}, SPRI {it.spri}: {reach_words(it)}{further}"))
+        items.append(joined(named(whose(it.session, it.sg, it.spri)), f": {reach_words(it)}{further}"))
     items += [f"and {grouped(len(reach) - 4 * FEW, 'more group')}"] if len(reach) > 4 * FEW else []
     known = [plain("p", f"It doesn't cover anything sent after the last signature block in this log{after}:"), listing(*items)] \
         if items else []
     general: List[Child] = [
         "Whoever holds the private key can change the log and sign it again.",
         "The verdict is worth no more than the key. Get the key by another way than with the log.",
-        "It doesn't say whether a signed message is true, or whether the sender's clock was right.",
+        "It doesn't say whether a signed message is true, or whether the sender's clock was right. Times are those that messages "
+        "state.",
         "An unlisted message may still be genuine: perhaps its signature block is missing.",
     ]
     if not has_counters:

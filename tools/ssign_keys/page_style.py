@@ -9,43 +9,45 @@ from .markup import Markup, drawn, element
 
 # what is drawn over the colour of a kind, in a tile of 6 by 6; kinds without a pattern are one colour
 PATTERNS: Dict[str, str] = {
-    "missing": "M-1 1L1 -1M0 6L6 0M5 7L7 5", "disputed": "M0 0L6 6M6 0L0 6", "unannounced": "M0 1.5H6M0 4.5H6", "tail": "M3 0V6",
-    "unlisted": "M-1 5L1 7M0 0L6 6M5 -1L7 1", "unverified": "M0 3H6M3 0V6", "spoilt": "M1 1H3V3H1Z",
-    "damaged": "M0 3L3 0L6 3L3 6Z",
+    "missing": "M-1 1L1 -1M0 6L6 0M5 7L7 5", "disputed": "M0 0L6 6M6 0L0 6", "unannounced": "M0 1.5H6M0 4.5H6",
+    "missing-up-to-the-counters": "M3 0V6", "changed-or-replaced": "M0 3L3 0L6 3", "unlisted": "M-1 5L1 7M0 0L6 6M5 -1L7 1",
+    "unverified": "M0 3H6M3 0V6", "spoilt": "M1 1H3V3H1Z", "damaged": "M0 3L3 0L6 3L3 6Z",
 }
 LIGHT = {
     "back": "#ffffff", "fore": "#1a1a1a", "dim": "#595959", "line": "#b8b8b8", "box": "#f3f3f0", "listed": "#2f7d4f",
-    "missing": "#b3261e", "disputed": "#7a1fa2", "unannounced": "#9a6200", "tail": "#1f5fb3", "unlisted": "#c2410c",
+    "missing": "#b3261e", "disputed": "#7a1fa2", "unannounced": "#9a6200", "missing-up-to-the-counters": "#1f5fb3",
+    "changed-or-replaced": "#4a55c8", "unlisted": "#c2410c",
     "unverified": "#8c2d55", "spoilt": "#5d4037", "damaged": "#00696b", "verified": "#7d8b98", "good": "#e3f2e6", "good-fore": "#14532d",
     "bad": "#fde7e4", "bad-fore": "#7a1510",
 }
 DARK = {
     "back": "#15171a", "fore": "#e8e6e3", "dim": "#a9a9a9", "line": "#50555b", "box": "#1f2226", "listed": "#5cb87f",
-    "missing": "#ff7b70", "disputed": "#d08bf0", "unannounced": "#f2b84b", "tail": "#79aef2", "unlisted": "#ff9a63",
+    "missing": "#ff7b70", "disputed": "#d08bf0", "unannounced": "#f2b84b", "missing-up-to-the-counters": "#79aef2",
+    "changed-or-replaced": "#a5b0ff", "unlisted": "#ff9a63",
     "unverified": "#ef8fb8", "spoilt": "#c7a79b", "damaged": "#4fc4c4", "verified": "#8794a1", "good": "#163522", "good-fore": "#c9f2d6",
     "bad": "#43191a", "bad-fore": "#ffd9d4",
 }
-KINDS = ("listed", "missing", "disputed", "unannounced", "tail", "unlisted", "unverified", "spoilt", "damaged", "verified")
+KINDS = ("listed", "verified", *PATTERNS)
 REST = """
 *{box-sizing:border-box}
 body{margin:0 auto;max-width:66rem;padding:1rem 1.25rem 3rem;background:var(--back);color:var(--fore);
 font:16px/1.5 system-ui,sans-serif}
 h1{font-size:1.5rem;margin:0 0 .2rem}
 h2{font-size:1.2rem;margin:2.2rem 0 .5rem;border-bottom:1px solid var(--line)}
-h3{font-size:1.05rem;margin:1.6rem 0 .3rem}
-h4{font-size:1rem;margin:1.1rem 0 .2rem}
-h1,h2,h3,h4,p,li,pre,bdi,td{overflow-wrap:anywhere}
-.time{white-space:nowrap}
+h1,h2,p,li,pre,bdi,td{overflow-wrap:anywhere}
 p{margin:.3rem 0}
 .verdict{padding:.9rem 1.1rem;border:2px solid currentColor;border-radius:.4rem;margin:.8rem 0}
-.verdict strong{display:block;font-size:1.35rem}
+.verdict>strong{display:block;font-size:1.35rem}
+ul{margin:.3rem 0;padding-left:1.2rem}
+.time{white-space:nowrap}
+summary{cursor:pointer;color:var(--dim)}
 .good{background:var(--good);color:var(--good-fore)}
 .bad{background:var(--bad);color:var(--bad-fore)}
 .dim,caption{color:var(--dim)}
 table{border-collapse:collapse;width:100%;font-size:.9rem;margin:.4rem 0 1rem}
 caption{text-align:left;padding:.2rem 0}
 th,td{text-align:left;vertical-align:top;padding:.25rem .7rem .25rem 0;border-bottom:1px solid var(--line)}
-td{min-width:4.5rem}
+td,tbody th{min-width:5.5rem}
 thead th{border-bottom:2px solid var(--line)}
 tbody th{font-weight:600}
 code,pre{font-family:ui-monospace,monospace;font-size:.87em}
@@ -54,7 +56,7 @@ pre{background:var(--box);padding:.7rem;white-space:pre-wrap}
 figure{margin:.4rem 0 1rem}
 .strip{display:block;width:100%;height:auto;background:var(--box);border:1px solid var(--line)}
 .ends{display:flex;justify-content:space-between;font-size:.8rem;color:var(--dim);font-variant-numeric:tabular-nums}
-.mark{fill:var(--fore)}
+.strip text{font-size:11px;fill:var(--fore)}
 .hidden{position:absolute;width:0;height:0}
 .over{stroke:var(--back);stroke-width:1.5;fill:none}
 .key{display:flex;flex-wrap:wrap;gap:.1rem 1.2rem;list-style:none;padding:0;margin:.3rem 0;font-size:.87rem}
@@ -65,7 +67,7 @@ NARROW = """
 @media screen and (max-width:44rem){table,caption,tbody,tr,td,tbody th{display:block}
 thead{position:absolute;width:1px;height:1px;overflow:hidden;clip-path:inset(50%)}
 tr{border-bottom:1px solid var(--line);padding:.35rem 0}td,tbody th{border:0;padding:.05rem 0}
-td:empty{display:none}td::before{content:attr(data-head) ": ";color:var(--dim)}}
+td:empty,.strip text{display:none}td::before{content:attr(data-head) ": ";color:var(--dim)}}
 """
 
 
@@ -81,8 +83,8 @@ def style() -> str:
     return (f":root{{color-scheme:light dark;{colours(LIGHT)}}}\n"
             f"@media (prefers-color-scheme:dark){{:root{{{colours(DARK)}}}}}\n{REST.strip()}\n{fills}"
             f"{NARROW.strip()}\n@page{{size:A4;margin:15mm}}\n"
-            f"@media print{{:root{{color-scheme:light;{colours(LIGHT)}}}body{{max-width:none;padding:0;font-size:10pt}}\n"
-            "h2,h3,h4,caption{break-after:avoid}tr,figure,.verdict{break-inside:avoid}\n"
+            f"@media print{{:root{{color-scheme:light;{colours(LIGHT)}}}html,body{{font-size:9pt}}body{{max-width:none;padding:0}}\n"
+            "h2,caption{break-after:avoid}tr,figure,.verdict{break-inside:avoid}\n"
             "*{-webkit-print-color-adjust:exact;print-color-adjust:exact}}\n")
 
 

@@ -13,11 +13,11 @@ from .damage import Damaged
 from .frames import LENGTH, frame_at
 from .identity import identity_lines
 from .logs import Log
+from .longest import NAMED, Weighed, numbers_words, whose
 from .pairs import Neighbour, Stretch
 from .reach import Reached
 from .report import Group
 from .reviewed import Reviewed
-from .stretch_visitor import StretchVisitor
 from .finder import most_shown
 from .summaries import FEW, Few, Runs
 from .verdict import sentence
@@ -49,6 +49,22 @@ PAIRS_WITH_DAMAGE = "Likely pairs (missing numbers, and unlisted messages or dam
     "can't show its message)"
 
 
+class Listed(NamedTuple):
+    """A list of runs, of a session or a group: how far its lines are indented, and what is left of it."""
+
+    indent: str
+    what: str
+    noun: str
+
+
+LISTS = {
+    "outside": Listed("  ", "messages before the night or after it", "message"),
+    "tail": Listed("  ", "messages, missing or unlisted by the counters", "message"),
+    "blocks": Listed("  ", "missing signature blocks", "block"), "missing": Listed("    ", "missing numbers", "number"),
+    "disputed": Listed("    ", "disputed numbers", "number"), "unannounced": Listed("    ", "unannounced numbers", "number"),
+}
+
+
 class Pair(NamedTuple):
     """Missing numbers of a group, with their neighbours, and the places of what they likely became."""
 
@@ -69,13 +85,6 @@ def group_words(sg: int, spri: int) -> str:
     """A group, with the messages that belong to it (RFC 5848, section 4.2.3)."""
     members = ("all messages", f"messages of PRI {spri}", f"messages of a range up to PRI {spri}", "by private arrangement")
     return f"SG {sg}, SPRI {spri} ({members[sg] if sg < len(members) else 'no group of the RFC'})"
-
-
-def numbers_words(first: int, last: int) -> str:
-    """A run of numbers with its length."""
-    if first == last:
-        return f"number {first}"
-    return f"numbers {first} to {last} ({last - first + 1:,} messages)"
 
 
 def blocks_words(first: int, last: int) -> str:
@@ -131,6 +140,12 @@ def times_words(first: Optional[str], last: Optional[str]) -> str:
     return f"listed messages: {span}, by their sender's own clock"
 
 
+def order_words(group: Group) -> str:
+    """In how far the order isn't that of the numbers."""
+    stand = grouped(group.out_of_order, "listed message stands", "listed messages stand")
+    return f"{stand} in front of the one with the number before, first number {group.first_out_of_order}"
+
+
 def stamp_words(stamp: Optional[str]) -> str:
     """The TIMESTAMP of a message."""
     return "which states no time" if stamp in (None, "-") else f"of {stamp}"
@@ -166,12 +181,12 @@ def after_words(log: Log, it: Damaged) -> str:
     return f"{where}, {'is' if it.length == 1 else 'are'} no message{long}"
 
 
-class TextVerdict(StretchVisitor):
+class TextVerdict(Weighed):
     """Writes for a person, into a passing file, as the report is read."""
 
     def __init__(self, out: BinaryIO, reviewed: Reviewed, only_findings: bool, is_detailed: bool = False) -> None:
         """Shows what was checked, and the times, where it is to be detailed."""
-        super().__init__(reviewed.survey)
+        super().__init__(reviewed.survey, NAMED)
         self._out = out
         self._reviewed = reviewed
         self._only_findings = only_findings
@@ -186,7 +201,7 @@ class TextVerdict(StretchVisitor):
         self._left: Optional[Few] = None
         self._pairs: List[Pair] = []
         self._pair_count = 0
-        self._begin_lists()
+        self._lists: Dict[str, Few] = {}
         self._kind = ""
         self._shown = 0
         self._runs = Runs()
@@ -195,16 +210,12 @@ class TextVerdict(StretchVisitor):
         put(self._out, line.encode("utf-8", "backslashreplace") + b"\n")
         self.lines += 1
 
-    def _begin_lists(self) -> None:
-        self._missing, self._holes, self._disputed, self._tails, self._blocks = Few(), Few(), Few(), Few(), Few()
-        self._outside = Few()
-
     # ---- sessions
 
     def session(self, session: Session, state: str) -> None:
         """Shows a session that isn't joined, and keeps the heading of another until something follows it."""
         super().session(session, state)
-        self._end_session()
+        self._end_runs()
         self._facts = self._reviewed.notes.of(session)
         self._session_heading = [f"Session: {session_words(session)}", f"  state: {state}; {STATES[state]}"]
         if self._facts is not None:
@@ -236,45 +247,43 @@ class TextVerdict(StretchVisitor):
             self._left.left -= 1
             self._left = None
 
+    def _show(self, name: str, numbers: int, line: str) -> None:
+        """Shows an entry of a list, about so many numbers, unless the list is long."""
+        if self._lists.setdefault(name, Few()).takes(numbers):
+            if LISTS[name].indent == "  ":
+                self._need_session()
+            else:
+                self._need_group()
+            self._put(LISTS[name].indent + line)
+
+    def _end_runs(self) -> None:
+        for name, (indent, what, noun) in LISTS.items():
+            few = self._lists.pop(name, None)
+            if few is not None and few.left:
+                self._put(f"{indent}and {grouped(few.left, 'more run')} of {what} ({grouped(few.left_numbers, noun)})")
+
     def outside(self, session: Session, sg: int, spri: int, first: int, last: int, is_early: bool) -> None:
         """Shows announced numbers that don't belong to the night."""
-        if self._outside.takes(last - first + 1):
-            self._need_session()
-            self._put(f"  {outside_words(is_early)}: {group_words(sg, spri)}, {numbers_words(first, last)}")
+        super().outside(session, sg, spri, first, last, is_early)
+        self._show("outside", last - first + 1, f"{outside_words(is_early)}: {group_words(sg, spri)}, {numbers_words(first, last)}")
 
     def tail_after(self, session: Session, sg: int, spri: int, first: int, last: int, before: Optional[Neighbour]) -> None:
         """Shows what is missing up to a counter."""
-        if not self._tails.takes(last - first + 1):
-            return
-        self._need_session()
+        super().tail_after(session, sg, spri, first, last, before)
         known = f"announces a number after {first - 1}" if first > 1 else "announces a message of this group"
-        self._put(f"  missing or unlisted, by the counters: {group_words(sg, spri)}, {numbers_words(first, last)}; no "
-                  f"verified block {known}{self._between(before, None)}")
+        self._show("tail", last - first + 1, f"missing or unlisted, by the counters: {group_words(sg, spri)}, "
+                   f"{numbers_words(first, last)}; no verified block {known}{self._between(before, None)}")
 
     def missing_blocks(self, session: Session, first: int, last: int) -> None:
         """Shows which signature blocks are missing."""
-        if self._blocks.takes(last - first + 1):
-            self._need_session()
-            self._put(f"  {blocks_words(first, last)}")
-
-    def _end_session(self) -> None:
-        if self._outside.left:
-            self._put(f"  and {grouped(self._outside.left, 'more run')} of messages before the night or after it "
-                      f"({grouped(self._outside.left_numbers, 'message')})")
-        if self._tails.left:
-            self._put(f"  and {grouped(self._tails.left, 'more run')} of messages, missing or unlisted by the counters "
-                      f"({grouped(self._tails.left_numbers, 'message')})")
-        if self._blocks.left:
-            self._put(f"  and {grouped(self._blocks.left, 'more run')} of missing signature blocks "
-                      f"({grouped(self._blocks.left_numbers, 'block')})")
-        self._begin_lists()
+        super().missing_blocks(session, first, last)
+        self._show("blocks", last - first + 1, blocks_words(first, last))
 
     # ---- groups
 
     def begin_group(self, group: Group) -> None:
         """Keeps the heading of a group."""
         super().begin_group(group)
-        self._begin_lists()
         self._group_heading = [f"  group: {group_words(group.sg, group.spri)}"]
         if not self._only_findings:
             self._need_group()
@@ -287,31 +296,16 @@ class TextVerdict(StretchVisitor):
 
     def stretch(self, group: Group, stretch: Stretch) -> None:
         """Shows numbers that are missing, disputed or unannounced."""
+        super().stretch(group, stretch)
+        numbers, between = numbers_words(stretch.first, stretch.last), self._between(stretch.before, stretch.behind)
         if stretch.kind == "lost":
-            self._show_missing(group, stretch)
+            self._show("missing", stretch.length, f"missing: {numbers}{between}")
         elif stretch.kind == "hole":
-            self._show_hole(stretch)
-        else:
-            self._show_disputed(stretch)
-
-    def _show_disputed(self, stretch: Stretch) -> None:
-        for number in range(stretch.first, stretch.last + 1):
-            if self._disputed.takes():
-                self._need_group()
-                self._put(f"    disputed: number {number}; verified blocks announce two different messages for it")
-
-    def _show_hole(self, stretch: Stretch) -> None:
-        if self._holes.takes(stretch.length):
-            self._need_group()
             blocks = "the block for it is" if stretch.length == 1 else "the blocks for them are"
-            self._put(f"    unannounced: {numbers_words(stretch.first, stretch.last)}; {blocks} missing or unverified"
-                      f"{self._between(stretch.before, stretch.behind)}")
-
-    def _show_missing(self, group: Group, stretch: Stretch) -> None:
-        if self._missing.takes(stretch.length):
-            self._need_group()
-            self._put(f"    missing: {numbers_words(stretch.first, stretch.last)}"
-                      f"{self._between(stretch.before, stretch.behind)}")
+            self._show("unannounced", stretch.length, f"unannounced: {numbers}; {blocks} missing or unverified{between}")
+        else:
+            for number in range(stretch.first, stretch.last + 1):
+                self._show("disputed", 1, f"disputed: number {number}; verified blocks announce two different messages for it")
         if not stretch.is_paired:
             return
         self._pair_count += len(stretch.likely) if stretch.is_matched else 1
@@ -334,11 +328,7 @@ class TextVerdict(StretchVisitor):
         super().end_group(group)
         if group.lost or group.disputed or group.unannounced or group.out_of_order:
             self._need_group()
-        for few, what in ((self._missing, "missing"), (self._disputed, "disputed"), (self._holes, "unannounced")):
-            if few.left:
-                self._put(f"    and {grouped(few.left, 'more run')} of {what} numbers "
-                          f"({grouped(few.left_numbers, 'number')})")
-        self._begin_lists()
+        self._end_runs()
         if not self._group_heading:
             self._put_counts(group)
         self._group_heading = []
@@ -348,8 +338,7 @@ class TextVerdict(StretchVisitor):
             (group.lost, "missing"), (group.disputed, "disputed"), (group.unannounced, "unannounced")) if count)
         self._put(f"    numbers {group.first} to {group.last}: {group.listed:,} listed{counts}")
         if group.out_of_order:
-            stand = grouped(group.out_of_order, "listed message stands", "listed messages stand")
-            self._put(f"    order: {stand} in front of the one with the number before, first number {group.first_out_of_order}")
+            self._put(f"    order: {order_words(group)}")
         elif group.listed > 1 and not self._only_findings:
             self._put("    order: the places of the listed messages rise with their numbers")
 
@@ -357,6 +346,7 @@ class TextVerdict(StretchVisitor):
 
     def stray(self, kind: str, place: int, cause: str) -> None:
         """Shows the first few messages of a kind, and keeps the places of the others."""
+        super().stray(kind, place, cause)
         if self._kind != kind:
             self._end_list()
             self._kind, self._shown, self._runs = kind, 0, Runs()
@@ -377,7 +367,7 @@ class TextVerdict(StretchVisitor):
     def _end_list(self) -> None:
         if not self._kind:
             # the sessions end here
-            self._end_session()
+            self._end_runs()
             self._end_states()
         elif self._runs.count:
             self._put(f"  and {self._runs.count:,} more, at {'place' if self._runs.count == 1 else 'places'} {self._runs}")
@@ -411,6 +401,7 @@ class TextVerdict(StretchVisitor):
 
     def end(self, count: int) -> None:
         """Shows how many messages there are of each kind."""
+        super().end(count)
         self._end_lists()
         totals = self.totals
         kinds = [grouped(totals.unlisted, "unlisted", "unlisted"), grouped(totals.refused, "unverified block"),
@@ -434,9 +425,8 @@ class TextVerdict(StretchVisitor):
         for place in sorted(texts):
             texts[place] = self._text(place, "unlisted")
         for it in self._pairs:
-            session = " ".join(map(shown, it.group.session))
-            self._put(f"  missing {numbers_words(it.first, it.last)} of {session}, SG {it.group.sg}, SPRI {it.group.spri}: "
-                      f"{neighbours_words(it.stretch)}")
+            group = whose(it.group.session, it.group.sg, it.group.spri)
+            self._put(f"  missing {numbers_words(it.first, it.last)} of {group}: {neighbours_words(it.stretch)}")
             for place in it.places:
                 self._put(f"    likely {place_words(self._reviewed.log, place)}{texts[place]}")
             for damaged in it.stretch.damaged:
@@ -447,14 +437,25 @@ class TextVerdict(StretchVisitor):
     # ---- the verdict
 
     def verdict(self) -> bytes:
-        """Shows how far the log goes, and the verdict. Gives what has to stand in front: the verdict of a long text, and
-        what was checked."""
+        """Shows how far the log goes, and the verdict. Gives what has to stand in front: of a long text, or where a list of runs
+        was cut, the verdict and the longest runs; and what was checked."""
         self._put_reach()
         said = f"Verdict: {sentence(self._reviewed.facts)}"
         self._put(said)
         checked = self._details.checked.lines() if self._details is not None else []
-        front = [said, *checked] if self.lines + len(checked) > LONG else checked
+        is_cut = any(it.entries > FEW for it in self.runs.values())
+        front = [said, *self._longest(), *checked] if is_cut or self.lines + len(checked) > LONG else checked
         return "".join(f"{it}\n" for it in front).encode("utf-8", "backslashreplace")
+
+    def _longest(self) -> List[str]:
+        """The longest runs of each kind, whatever stands before them in their lists."""
+        lines = []
+        for kind, runs in self.runs.items():
+            lines += [f"  {kind}: {it.words(self.has_one_group)}{self._between(it.stretch.before, it.stretch.behind)}"
+                      for it in runs.longest()]
+            if runs.entries > NAMED:
+                lines.append(f"  and {runs.entries - NAMED:,} more, none of them longer")
+        return ["The longest runs of each kind:", *lines] if lines else []
 
     def _put_reach(self) -> None:
         reach = self._reviewed.survey.reach
@@ -469,7 +470,6 @@ class TextVerdict(StretchVisitor):
             if number == FEW:
                 self._put(f"  and {grouped(len(reach) - FEW, 'more group')}")
                 break
-            host, app, procid, rsid = map(shown, it.session)
             further = "" if self.counters is None else f"; {counters_words(it)}"
-            self._put(f"  session {host} {app} {procid} {rsid}, SG {it.sg}, SPRI {it.spri}: {reach_words(it)}{further}")
+            self._put(f"  session {whose(it.session, it.sg, it.spri)}: {reach_words(it)}{further}")
         self._put(f"Whether anything sent later is missing, this log{' and these counters' if both else ''} can't show.")
