@@ -10,15 +10,12 @@ from dataclasses import asdict, dataclass
 from typing import Any, Dict, List, NamedTuple, Optional, Tuple
 
 from ssign_keys import expand as expand_options
-from ssign_keys.asking import refuse_older
 from ssign_keys.faults import Fault
 from ssign_keys.files import reason
 from ssign_keys.kept import Counters
 from ssign_keys.programs import add_log_arguments, add_program_argument, find_program, log_words
-from ssign_keys.progress import Progress
 from ssign_keys.sizes import add_max_payload
 from ssign_keys.words import shown_name
-from ssign_keys.workplace import Workplace
 
 from .given import begin_for, counters_for, own_file
 from .given import sum_of as sum_of_octets
@@ -208,8 +205,6 @@ def make(arguments: argparse.Namespace) -> Settings:
     asked = [f"--answers={answers}"] if answers is not None and not os.path.isdir(answers) else []
     try_words(program, [*asked, *words])
     trust, files = trust_of(arguments)
-    if trust:
-        try_once(program, "--lines" in words)
     if trust and answers is not None:
         raise Fault("--answers says which signatures are valid, and so do --key, --session-key, --ca and --cert: "
                     "give one of "
@@ -258,12 +253,6 @@ def try_words(program: str, words: List[str]) -> None:
     if tried.returncode != 0:
         # what ssign said stands above, also while it is built
         raise Fault(f"ssign refuses these options, or the answers: it ended with status {tried.returncode}")
-
-
-def try_once(program: str, are_lines: bool) -> None:
-    """Refuses an older ssign once, and not for each part."""
-    with Workplace() as workplace:
-        refuse_older(program, are_lines, workplace, Progress())
 
 
 def sum_of(path: str) -> str:

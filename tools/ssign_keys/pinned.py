@@ -19,7 +19,7 @@ from .payloads import state_key
 from .programs import Refused, Run
 from .progress import Progress
 from .trust import Trust, Trusted
-from .words import grouped, shown_name
+from .words import grouped
 from .workplace import Workplace, finish, put
 
 # Of one session, so many different fragments are kept that nobody is known to have signed. More can be there only if strangers,
@@ -81,10 +81,7 @@ class Search:
             for text in texts:
                 put(file, b"trust %s\n" % base64.b64encode(text))
             finish(file)
-        words = [f"--pinned={self._workplace.path('pinned')}"]
-        if not self._has_option(words):
-            return Known([], self._sentences, unsigned)
-        return Known(words, self._sentences, unsigned, self._asks)
+        return Known([f"--pinned={self._workplace.path('pinned')}"], self._sentences, unsigned, self._asks)
 
     def _asks(self, stored: bytes) -> bool:
         """Whether a message isn't a certificate block of a disputed session that none of its keys signed.
@@ -96,19 +93,6 @@ class Search:
         if found is None or found.session not in self._disputed or found.session in self._cut:
             return True
         return hash((base64.b64encode(found.octets), found.signature)) in self._signed
-
-    def _has_option(self, words: List[str]) -> bool:
-        """Whether the program knows the option. An empty log shows it."""
-        try:
-            Run(self._program, ["review", *words], self._workplace, self._progress, subprocess.DEVNULL,
-                subprocess.DEVNULL).end(lambda: None)
-        except Refused as refused:
-            if refused.code is not None or refused.mistake is None:
-                raise
-            self._sentences.append(f"the program {shown_name(self._program)} has no `review --pinned`, so strangers can dispute a "
-                                   "session by blocks that they didn't sign: name a newer one with --ssign")
-            return False
-        return True
 
     # ---- sessions
 

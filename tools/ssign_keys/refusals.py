@@ -101,8 +101,6 @@ def mistake(text: str, arguments: argparse.Namespace) -> str:
     foreign = not_utf8(arguments)
     if "UTF-8" in text and foreign is not None:
         return f"--{foreign.option} {quoted(foreign.text)}: {foreign.why}"
-    if re.search("'--(resume|ahead)'", text):
-        return f"this ssign has no {'--resume' if 'resume' in text else '--ahead'}, which --state needs: use a newer one"
     if "UTF-8" in text:
         return "the folder for passing files has a name that isn't UTF-8: TMPDIR names another one"
     return text

@@ -16,7 +16,7 @@ from . import strangers
 from . import trust as trust_options
 from .agreement import Survey
 from .answer import told_answers
-from .asking import ONCE, refuse_older
+from .asked import ONCE
 from .damage import Damage
 from .blocks import Session
 from .broken_blocks import Broken, Search
@@ -177,9 +177,9 @@ class Verification:
         log = self._log = open_log(arguments.logs, named_form, workplace, progress, arguments.max_expanded)
         warn_of_form(log)
         if listed is not None:
-            missing = add_counters(missing, listed.look(log), program, workplace, progress)
+            missing = add_counters(missing, listed.look(log), workplace)
             if arguments.from_manifest:
-                missing = add_begin(missing, listed.begin(), program, workplace, progress)
+                missing = add_begin(missing, listed.begin(), workplace)
         candidates = Candidates(log, longest(arguments), workplace, progress)
         return log, Verifier(program, log_words(arguments, log.are_lines), missing, log, candidates, workplace, progress)
 
@@ -246,8 +246,6 @@ class Verifier:
             asks = self._known.asks if self._known.words else None
             self._keep(self._candidates.run(self._program, words, subprocess.PIPE, asks), trust, jobs)
         except Refused as refused:
-            if refused.code is None:
-                refuse_older(self._program, self._log.are_lines, self._workplace, self._progress)
             self._refuse(refused)
             raise
         self._log.check_unchanged()
@@ -476,25 +474,22 @@ def refuse_one_pipe(begin: Optional[List[str]], counters: Optional[List[str]], l
 
 
 def find_missing(program: str, arguments: argparse.Namespace, workplace: Workplace, progress: Progress) -> Missing:
-    """Refuses what can't be asked, before the log is read: by an older ssign, or up to a bad counters file."""
+    """Refuses a bad counters file before the log is read."""
     # a damaged block is to be ignored only where no GBC is missing
     words = ["--whole"] if arguments.whole or arguments.ignore_strangers else []
     missing = Missing(words, None)
-    if words and not (arguments.begin or arguments.counters):
-        given = "--whole" if arguments.whole else "--ignore-strangers"
-        refuse_without(program, words, given, "which signature blocks are missing", workplace, progress)
     if arguments.begin:
         path = copy_begin(arguments.begin[0], workplace)
         words.append(f"--from={path}")
         # a refusal names the file that is read last
         arguments.read_counters = arguments.begin
-        refuse_without(program, words, "--from", "what is missing of one night", workplace, progress)
+        try_words(program, words, workplace, progress)
         missing = missing._replace(begin=read_counters(path), begin_digest=digest_of(arguments.begin[0], path))
     if arguments.counters:
         path = copy_counters(arguments.counters[0], workplace)
         words.append(f"--counters={path}")
         arguments.read_counters = arguments.counters
-        refuse_without(program, words, "--counters", "what is missing up to counters", workplace, progress)
+        try_words(program, words, workplace, progress)
         kept = read_counters(path)
         if kept.are_none():
             raise nothing_shown(arguments.counters[0])
@@ -502,7 +497,7 @@ def find_missing(program: str, arguments: argparse.Namespace, workplace: Workpla
     return missing
 
 
-def add_counters(missing: Missing, lines: List[bytes], program: str, workplace: Workplace, progress: Progress) -> Missing:
+def add_counters(missing: Missing, lines: List[bytes], workplace: Workplace) -> Missing:
     """Has the review use these lines too, which are those of a counters file."""
     if not lines:
         return missing
@@ -513,30 +508,18 @@ def add_counters(missing: Missing, lines: List[bytes], program: str, workplace: 
         put(file, file_of(b"".join(lines)))
         finish(file)
     words = [it for it in missing.words if not it.startswith("--counters=")] + [f"--counters={path}"]
-    if missing.counters is None:
-        refuse_without(program, words, "--counters", "what is missing up to the manifest's counters", workplace, progress)
     return missing._replace(words=words, counters=read_counters(path))
 
 
-def add_begin(missing: Missing, lines: bytes, program: str, workplace: Workplace, progress: Progress) -> Missing:
+def add_begin(missing: Missing, lines: bytes, workplace: Workplace) -> Missing:
     """Has the review begin at these counters, which are lines of a counters file; with none the first night begins."""
     with workplace.new_file("begin") as file:
         put(file, file_of(lines))
         finish(file)
     path = workplace.path("begin")
-    words = [*missing.words, f"--from={path}"]
-    refuse_without(program, words, "--from", "what is missing of one night", workplace, progress)
-    return missing._replace(words=words, begin=read_counters(path))
+    return missing._replace(words=[*missing.words, f"--from={path}"], begin=read_counters(path))
 
 
-def refuse_without(program: str, words: List[str], option: str, what: str, workplace: Workplace,
-                   progress: Progress) -> None:
-    """Refuses an ssign that doesn't know the last of these words, which the option of this name needs. An empty log shows it."""
-    try:
-        Run(program, ["review", *words], workplace, progress, subprocess.DEVNULL, subprocess.DEVNULL).end(lambda: None)
-    except Refused as refused:
-        if refused.code is not None or "UTF-8" in (refused.mistake or ""):
-            raise
-        unknown = words[-1].partition("=")[0]
-        raise Fault(f"the program {shown_name(program)} has no `review {unknown}`, so it can't say {what}: name a newer "
-                    f"one with --ssign, or leave {option} out") from refused
+def try_words(program: str, words: List[str], workplace: Workplace, progress: Progress) -> None:
+    """Has ssign read the files that these words name. An empty log needs no more."""
+    Run(program, ["review", *words], workplace, progress, subprocess.DEVNULL, subprocess.DEVNULL).end(lambda: None)
