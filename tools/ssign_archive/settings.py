@@ -2,7 +2,6 @@
 from __future__ import annotations
 
 import argparse
-import hashlib
 import json
 import os
 import subprocess
@@ -10,6 +9,7 @@ from dataclasses import asdict, dataclass
 from typing import Any, Dict, List, NamedTuple, Optional, Tuple
 
 from ssign_keys import expand as expand_options
+from ssign_keys.digests import digest_of
 from ssign_keys.faults import Fault
 from ssign_keys.files import reason
 from ssign_keys.kept import Counters
@@ -258,14 +258,10 @@ def try_words(program: str, words: List[str]) -> None:
 def sum_of(path: str) -> str:
     """The SHA-256 of a file."""
     look(path)
-    hasher = hashlib.sha256()
     try:
-        with open(path, "rb") as file:
-            for piece in iter(lambda: file.read(1 << 20), b""):
-                hasher.update(piece)
+        return digest_of(path, path).sha256
     except OSError as fault:
         raise Fault(f"{shown_name(path)} can't be read: {reason(fault)}") from fault
-    return hasher.hexdigest()
 
 
 def look_of(path: str) -> str:

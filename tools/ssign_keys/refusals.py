@@ -108,8 +108,7 @@ def mistake(text: str, arguments: argparse.Namespace) -> str:
 
 def warn_of_form(log: Log) -> None:
     """Says of frames that are read as lines, which --lines alone can ask for, that they look like frames."""
-    ends = [it.offset for it in log.parts[1:]] + [log.size]
-    for part, end in zip(log.parts, ends):
+    for part, end in log.spans():
         if log.are_lines and part.offset < end and is_surely_framed(read_at(log.file, part.offset, FRONT)):
             notify(f"ssign-keys: warning: {named(part.name)}: this looks like octet-counted frames, and is read as lines")
 

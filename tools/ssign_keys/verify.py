@@ -39,7 +39,7 @@ from .text_verdict import TextVerdict
 from .programs import Refused, Run, add_limit_arguments, add_program_argument, find_program, log_words
 from .progress import Progress
 from .refusals import fault_of, warn_of_form
-from .report import Reading, wrong
+from .report import Reading, ReportVisitor, wrong
 from .reviewed import Reviewed
 from .salvage import SALVAGE, salvage
 from .finder import Finder
@@ -54,7 +54,8 @@ if TYPE_CHECKING:
     from .details import Details
     from .json_verdict import JsonVerdict
     from .manifested import Listed
-    from .times import Times
+    from .page import Page
+    from .times import Owners, Times
 
 # A form that isn't asked for, and what is shown in it, is loaded where it is made: all of them take a fifth of a start.
 TOOL = "ssign-keys"
@@ -155,9 +156,9 @@ class Verification:
             if is_detailed(arguments):
                 reviewed = reviewed._replace(details=self._details(verifier, reviewed, trust, listed))
             verifier.name_unused(trust)
-            pieces = verifier.output(reviewed, arguments, listed)
+            pieces = verifier.show(reviewed, arguments, listed)
             if arguments.html is not None:
-                page_file.prepare(verifier.page(reviewed, listed))
+                page_file.prepare(verifier.page_path)
             if arguments.counters_out is not None:
                 counters_out.keep(verifier.count())
             log.check_unchanged()
@@ -194,7 +195,7 @@ class Verification:
         answers = digest_of(self._arguments.answers_out or "", verifier.answers_path)
         checked = make_checked(self._arguments, self._time, programs, logs, [*trust.given, *self._stamps.authorities], files,
                                answers, self._stamps.stamped)
-        return Details(checked, verifier.times(reviewed))
+        return Details(checked, verifier.times())
 
     def fault_of(self, refused: Refused) -> Optional[Fault]:
         """What is said of a refusal of ssign; None where all was said."""
@@ -229,13 +230,14 @@ class Verifier:
         self._workplace = workplace
         self._progress = progress
         self.answers_path = workplace.path("answers")
+        self.page_path = workplace.path("page")
         self._report = workplace.new_file("report")
-        self._notes = workplace.new_file("notes")
         self._candidates = candidates
         # how many blocks have a valid signature
         self._valid = 0
         # the payloads that are known beforehand
         self._known = Known([], [])
+        self._owners: Optional[Owners] = None
 
     def answer(self, trust: Trust, jobs: int) -> None:
         """Has ssign ask, and keeps what holds as the answers file, and what valid blocks vouch for as notes."""
@@ -286,13 +288,14 @@ class Verifier:
 
     def _keep(self, asking: Run, trust: Trust, jobs: int) -> None:
         """Answers the questions of a run, and keeps the answers, and what they vouch for."""
-        with self._workplace.new_file("answers") as file, \
+        with self._workplace.new_file("answers") as file, self._workplace.new_file("notes") as notes, \
                 told_answers(asking.lines(lambda: None), trust, jobs) as answered:
-            for count, it in enumerate(noted(answered, self._notes), 1):
+            for count, it in enumerate(noted(answered, notes), 1):
                 put(file, it.line)
                 self._valid += it.line.startswith(b"yes ")
                 self._progress.show("checking signatures", count, 0, "valid blocks")
             finish(file)
+            finish(notes)
         for sentence in answered.counts.sentences():
             self._progress.clear()
             notify(f"ssign-keys: {sentence}")
@@ -312,11 +315,17 @@ class Verifier:
         if listed is not None:
             listed.refuse_other(self._log)
         is_whole, counters, begin = bool(self.missing.words), self.missing.counters, self.missing.begin
-        survey = Survey(self._candidates.walked, self._read_notes(), is_whole, counters, begin)
-        Reading(survey).read(self._report, self._progress)
+        walked = self._candidates.walked
+        survey = Survey(walked, self._read_notes(), is_whole, counters, begin)
+        beside: List[ReportVisitor] = [] if listed is None else [listed.extents]
+        if is_detailed(arguments):
+            from .times import Owners
+            self._owners = Owners(survey, walked.messages)
+            beside.append(self._owners)
+        Reading(survey, *beside).read(self._report, self._progress)
         survey.check(status, self._valid)
         facts = Facts(status, survey.totals, survey.states, survey.missing or 0, survey.reach.coverage(),
-                      self._broken_blocks(survey), 0 if listed is None else listed.count(self._report, counters, begin),
+                      self._broken_blocks(survey), 0 if listed is None else listed.compare(),
                       survey.on_sha1, arguments.allow_sha1, begin is not None, stamps.sentences,
                       strangers.count_strangers(self._log, survey.refused, survey.joined, survey.reach, self._progress),
                       arguments.ignore_strangers, survey.has_others, [shown_name(it) for it in trust.unbound_files(survey.joined)])
@@ -325,14 +334,13 @@ class Verifier:
 
     def _read_notes(self) -> Notes:
         """What was kept of the sessions, from the first."""
-        return Notes(self._notes, self._known.unsigned)
+        return Notes(self._workplace.path("notes"), self._known.unsigned)
 
-    def times(self, reviewed: Reviewed) -> Times:
+    def times(self) -> Times:
         """The times that the messages of the log state."""
-        from .times import Owners, Times
-        owners = Owners(reviewed.survey)
-        Reading(owners).read(self._report, self._progress)
-        return Times(self._log, owners, self._progress)
+        from .times import Times
+        assert self._owners is not None
+        return Times(self._log, self._owners, self._progress)
 
     def _broken_blocks(self, survey: Survey) -> Broken:
         """What holds the mark of a block and is none. In most logs there is nothing more to look for."""
@@ -377,41 +385,49 @@ class Verifier:
             self._progress.clear()
             notify(f"ssign-keys: the log has no session '{it.pattern}', for which --session-key gives a key")
 
-    def output(self, reviewed: Reviewed, arguments: argparse.Namespace, listed: Optional[Listed]) -> Iterator[bytes]:
-        """The pieces of what is to be printed, in the form that was asked for. All of it is made first."""
+    def show(self, reviewed: Reviewed, arguments: argparse.Namespace, listed: Optional[Listed]) -> Iterator[bytes]:
+        """Makes the page, and gives the pieces of what is to be printed. All of it is made first, and the report read once."""
+        pages = [] if arguments.html is None else [self._page(reviewed, listed)]
         if arguments.raw:
+            self._notify(reviewed.facts, arguments, listed)
+            pieces = without_listed(file_pieces(self._report)) if arguments.findings else file_pieces(self._report)
+            if pages:
+                Reading(*pages).read(self._report, self._progress)
+        else:
+            out = self._workplace.new_file("out")
             if listed is not None:
-                listed.notify()
-            if reviewed.facts.on_sha1 and not arguments.allow_sha1 and reviewed.facts.review_status == 0:
-                sha1.say_finding(reviewed.facts.on_sha1)
-            if not reviewed.facts.totals.listed:
-                notify(f"ssign-keys: {NOTHING}")
-            if reviewed.facts.is_ignoring:
-                notify(f"ssign-keys: {strangers.ignored_words(reviewed.facts.of_strangers)}")
-            for it in reviewed.facts.stamps:
-                notify(f"ssign-keys: {it}")
-            pieces = file_pieces(self._report)
-            return without_listed(pieces) if arguments.findings else pieces
-        out = self._workplace.new_file("out")
-        if listed is not None:
-            listed.put(out, arguments.json)
-        form = make_form(out, reviewed, arguments)
-        Reading(form).read(self._report, self._progress)
-        front = form.verdict()
-        finish(out)
-        return chain([front], file_pieces(out))
+                listed.put(out, arguments.json)
+            form = make_form(out, reviewed, arguments)
+            Reading(form, *pages).read(self._report, self._progress)
+            front = form.verdict()
+            finish(out)
+            pieces = chain([front], file_pieces(out))
+        for page in pages:
+            with open(self.page_path, "wb") as file:
+                page.write(file)
+                finish(file)
+        return pieces
 
-    def page(self, reviewed: Reviewed, listed: Optional[Listed]) -> str:
-        """Makes the page, and gives the path of its passing file."""
+    @staticmethod
+    def _notify(facts: Facts, arguments: argparse.Namespace, listed: Optional[Listed]) -> None:
+        """Says on standard error what standard output doesn't have, where that is the report alone."""
+        if listed is not None:
+            listed.notify()
+        if facts.on_sha1 and not arguments.allow_sha1 and facts.review_status == 0:
+            sha1.say_finding(facts.on_sha1)
+        if not facts.totals.listed:
+            notify(f"ssign-keys: {NOTHING}")
+        if facts.is_ignoring:
+            notify(f"ssign-keys: {strangers.ignored_words(facts.of_strangers)}")
+        for it in facts.stamps:
+            notify(f"ssign-keys: {it}")
+
+    def _page(self, reviewed: Reviewed, listed: Optional[Listed]) -> Page:
+        """A page, to which nothing was handed yet."""
         from .page import Page
         found = [] if listed is None else [(it.where, it.what) for it in listed.found]
-        # what was read beside the report once is read again
-        page = Page(reviewed._replace(notes=self._read_notes()), found)
-        Reading(page).read(self._report, self._progress)
-        with self._workplace.new_file("page") as file:
-            page.write(file)
-            finish(file)
-        return self._workplace.path("page")
+        # the form reads them at the same time
+        return Page(reviewed._replace(notes=self._read_notes()), found)
 
     def _reading(self, phase: str) -> Callable[[], None]:
         return lambda: self._progress.show(phase, self._log.position(), self._log.size, "octets")

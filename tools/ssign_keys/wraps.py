@@ -7,7 +7,7 @@ from __future__ import annotations
 import re
 from typing import Optional
 
-from .texts import wrong_stamp
+from .written import is_stamp
 
 # the front of a message of RFC 5424, section 6, with MSGID `wrapped`, no element, and a MSG that begins with a bar
 FRONT = re.compile(rb"<(?:0|[1-9][0-9]?|1[0-8][0-9]|19[01])>1 ([!-~]{1,32}) [!-~]{1,255} [!-~]{1,48} [!-~]{1,128} "
@@ -19,6 +19,6 @@ LONGEST_FRONT = len("<191>1 ") + 33 + 256 + 49 + 129 + len("wrapped - |")
 def original_begins(text: bytes) -> Optional[int]:
     """Where the original begins in a wrap, by the text or so many first octets of it; None where it is no wrap."""
     found = FRONT.match(text)
-    if found is None or wrong_stamp(found[1].decode("ascii")) is not None:
+    if found is None or not is_stamp(found[1]):
         return None
     return found.end()
