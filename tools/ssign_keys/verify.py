@@ -327,7 +327,7 @@ class Verifier:
         facts = Facts(status, survey.totals, survey.states, survey.missing or 0, survey.reach.coverage(),
                       self._broken_blocks(survey), 0 if listed is None else listed.compare(),
                       survey.on_sha1, arguments.allow_sha1, begin is not None, stamps.sentences,
-                      strangers.count_strangers(self._log, survey.refused, survey.joined, survey.reach, self._progress),
+                      strangers.count_strangers(self._candidates, survey.refused, survey.joined, survey.reach),
                       arguments.ignore_strangers, survey.has_others, [shown_name(it) for it in trust.unbound_files(survey.joined)])
         finder = Finder(self._log, self._progress)
         return Reviewed(self._log, finder, self._read_notes(), survey, facts, is_whole, counters, begin)
@@ -346,7 +346,7 @@ class Verifier:
         """What holds the mark of a block and is none. In most logs there is nothing more to look for."""
         if self._candidates.walked.marked == survey.verified + survey.totals.refused + survey.totals.spoilt:
             return Broken()
-        return Search(self._log, survey.unlisted, self._progress).run(self._program, self._words, self._workplace)
+        return Search(self._candidates, survey.unlisted, self._progress).run(self._program, self._words, self._workplace)
 
     def count(self) -> str:
         """Has ssign count how far each session went, which its blocks alone say. Gives the path of the counters file."""
