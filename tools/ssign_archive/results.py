@@ -165,8 +165,6 @@ def stale(record: Record, part: str, settings: Settings) -> str:
     if record.settings != settings_form.to_text(settings):
         return "it was reviewed with other options, or another program or answers file"
     # which counters of a manifest are used depends on the files, so these come first
-    if any(it.stored.ctime_ns == 0 for it in record.files):
-        return "nothing shows whether its files were changed"
     if [it.stored for it in record.files] != stored_now(settings, part):
         return "its files were changed"
     for name, seen in settings.given_to(part).items():

@@ -272,11 +272,7 @@ def look_of(path: str) -> str:
 
 def to_text(settings: Settings) -> str:
     """The settings as JSON."""
-    fields = asdict(settings)
-    if not settings.from_manifest:
-        # results of before have no such word
-        del fields["from_manifest"]
-    return json.dumps(fields, indent=1, sort_keys=True) + "\n"
+    return json.dumps(asdict(settings), indent=1, sort_keys=True) + "\n"
 
 
 def from_text(text: str, path: str) -> Settings:
@@ -285,6 +281,6 @@ def from_text(text: str, path: str) -> Settings:
         read = json.loads(text)
         return Settings(read["archive"], read["program"], read["answers"], tuple(read["words"]), tuple(read["seen"]),
                         read["trust"], read["allows_sha1"], read["counters"], read["manifest"],
-                        read["max_expanded"], read.get("from_manifest", False))
+                        read["max_expanded"], read["from_manifest"])
     except (ValueError, KeyError, TypeError) as fault:
         raise Fault(f"{shown_name(path)} holds no settings of ssign-archive") from fault

@@ -40,7 +40,7 @@ from .programs import Refused, Run, add_limit_arguments, add_program_argument, f
 from .progress import Progress
 from .refusals import fault_of, warn_of_form
 from .report import Reading, ReportVisitor, wrong
-from .reviewed import Reviewed
+from .reviewed import Details, Reviewed
 from .salvage import SALVAGE, salvage
 from .finder import Finder
 from .stamped import NONE, Stamps, check_stamps
@@ -51,7 +51,6 @@ from .words import shown_name
 from .workplace import Workplace, finish, put, notify
 
 if TYPE_CHECKING:
-    from .details import Details
     from .json_verdict import JsonVerdict
     from .manifested import Listed
     from .page import Page
@@ -187,7 +186,6 @@ class Verification:
     def _details(self, verifier: Verifier, reviewed: Reviewed, trust: Trust, listed: Optional[Listed]) -> Details:
         """What was checked, and the times of the log."""
         from .checked import checked_logs, make_checked
-        from .details import Details
         from .program_facts import ssign_facts, tool_facts
         programs = tool_facts(TOOL), ssign_facts(self._program, "--ssign" if self._arguments.ssign else "the variable SSIGN")
         logs = checked_logs(reviewed.log, reviewed.survey.totals.messages)
