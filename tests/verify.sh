@@ -409,10 +409,10 @@ says 'an empty log, with --whole' 1 "Verdict: NOTHING IS SHOWN: the log is empty
 cp both stored
 printf '#!/bin/sh\necho "$*" >>called\necho ssign 0.0.9\n' >other
 chmod +x other
-while read -r words; do
+while read -r given; do
     # shellcheck disable=SC2086
-    keys $words --ssign ./other
-    refuses "another version: ${words%% *}" "ssign-keys: the program ./other is ssign 0.0.9, and it has to be $("$program" --version): name that with --ssign"
+    keys $given --ssign ./other
+    refuses "another version: ${given%% *}" "ssign-keys: the program ./other is ssign 0.0.9, and it has to be $("$program" --version): name that with --ssign"
 done <<'END'
 verify --key keys/public-key.pem stored
 verify --key keys/public-key.pem --nights stored stored
