@@ -156,6 +156,7 @@ class PartReview:
         derived = derive(self._part, self._settings, files, self._extra, bounds, report, findings.put_finding, sessions)
         if (status == 0) != (derived.reported == 0):
             raise Fault(f"ssign review ended with status {status}, which its report doesn't bear out")
-        sums = {"report": sum_of(report, 0, os.fstat(report.fileno()).st_size)[1], "findings": findings.sum, "sessions": sessions.sum}
+        reported = sum_of(report, 0, os.fstat(report.fileno()).st_size)[1]
+        sums = {"report": reported, "findings": findings.sum, "sessions": sessions.sum}
         return Record(settings_form.to_text(self._settings), self._given, files, sums, derived.totals, derived.states,
                       status, derived.findings, self._extra, socket.gethostname(), self._began, time.time() - self._began)

@@ -133,8 +133,7 @@ class Listed:
         self._entries.append(entry)
 
     def compare(self) -> int:
-        """Compares the sessions and numbers of the entries with those of the report, and gives how many findings there are in
-        all."""
+        """Compares the sessions and numbers of the entries with those of the report. Gives all findings' number."""
         reviewed = self.extents.reviewed
         nights: Dict[Session, List[Entry]] = {}
         for it in self._entries:

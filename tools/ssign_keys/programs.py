@@ -61,8 +61,8 @@ def find_program(arguments: argparse.Namespace) -> str:
         raise Fault("there is no program ssign here: name it with --ssign, or with the variable SSIGN")
     version = said(program, "--version")
     if version is not None and version != f"ssign {VERSION}":
-        raise Fault(f"the program {shown_name(program)} is {shown(os.fsencode(version))[:LONGEST]}, and it has to be ssign {VERSION}: "
-                    "name that with --ssign")
+        raise Fault(f"the program {shown_name(program)} is {shown(os.fsencode(version))[:LONGEST]}, and it has to be "
+                    f"ssign {VERSION}: name that with --ssign")
     return str(program)
 
 
@@ -70,8 +70,8 @@ def find_program(arguments: argparse.Namespace) -> str:
 def said(program: str, word: str) -> Optional[str]:
     """What a program prints for a word: its one line, or None where that isn't what it does."""
     try:
-        done = subprocess.run([program, word], stdin=subprocess.DEVNULL, stdout=subprocess.PIPE, stderr=subprocess.DEVNULL,
-                              timeout=PATIENCE, check=False)
+        done = subprocess.run([program, word], stdin=subprocess.DEVNULL, stdout=subprocess.PIPE,
+                              stderr=subprocess.DEVNULL, timeout=PATIENCE, check=False)
     except (OSError, ValueError, subprocess.SubprocessError):
         return None
     line = done.stdout.rstrip(b"\n")

@@ -116,8 +116,10 @@ class Totals:
 
 
 class ReportVisitor:
-    """Tells of the lines of a report, one after the other: of those that it has a method for. What is counted stands in `totals` and
-    `states`."""
+    """Tells of those lines of a report that it has a method for, one after the other.
+
+    What is counted stands in `totals` and `states`.
+    """
 
     def __init__(self, is_whole: bool = False, counters: Optional[Counters] = None, begin: Optional[Counters] = None,
                  is_salvaged: bool = False) -> None:
@@ -296,14 +298,12 @@ class Reading:
             raise wrong(f"it has a line that wasn't asked for, {text_of(line)}")
 
     def _take_end(self, word: bytes, number: int) -> None:
-        if word == b"torn":
-            self._visitor.totals.torn = number
-        else:
-            self._visitor.totals.messages = number
         for it in self._visitors:
             if word == b"torn":
+                it.totals.torn = number
                 it.torn(number)
             else:
+                it.totals.messages = number
                 it.end(number)
 
     def _take_session(self, fields: List[bytes]) -> None:

@@ -68,7 +68,8 @@ def ignored_words(count: int) -> str:
     return f"{count:,} unverified blocks were ignored: they claim joined sessions, aren't validly signed, and change nothing"
 
 
-def count_strangers(candidates: Candidates, refused: "array[int]", joined: Set[Session], reach: Reach) -> Dict[Session, Claims]:
+def count_strangers(candidates: Candidates, refused: "array[int]", joined: Set[Session],
+                    reach: Reach) -> Dict[Session, Claims]:
     """How many of the blocks at these rising places claim each of these sessions, which go so far."""
     found: Dict[Session, Claims] = {}
     if not refused or not joined:

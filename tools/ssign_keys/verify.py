@@ -344,7 +344,8 @@ class Verifier:
         """What holds the mark of a block and is none. In most logs there is nothing more to look for."""
         if self._candidates.walked.marked == survey.verified + survey.totals.refused + survey.totals.spoilt:
             return Broken()
-        return Search(self._candidates, survey.unlisted, self._progress).run(self._program, self._words, self._workplace)
+        search = Search(self._candidates, survey.unlisted, self._progress)
+        return search.run(self._program, self._words, self._workplace)
 
     def count(self) -> str:
         """Has ssign count how far each session went, which its blocks alone say. Gives the path of the counters file."""
@@ -384,7 +385,7 @@ class Verifier:
             notify(f"ssign-keys: the log has no session '{it.pattern}', for which --session-key gives a key")
 
     def show(self, reviewed: Reviewed, arguments: argparse.Namespace, listed: Optional[Listed]) -> Iterator[bytes]:
-        """Makes the page, and gives the pieces of what is to be printed. All of it is made first, and the report read once."""
+        """Makes the page, and gives the pieces of what is to be printed. All is made first; the report is read once."""
         pages = [] if arguments.html is None else [self._page(reviewed, listed)]
         if arguments.raw:
             self._notify(reviewed.facts, arguments, listed)
@@ -401,7 +402,7 @@ class Verifier:
             finish(out)
             pieces = chain([front], file_pieces(out))
         for page in pages:
-            with open(self.page_path, "wb") as file:
+            with self._workplace.new_file("page") as file:
                 page.write(file)
                 finish(file)
         return pieces
