@@ -184,13 +184,6 @@ archive prepare archive --results whole --answers answers --whole
 archive part whole gate-2
 archive table whole
 says 'no block is missing' 2 "${rows[1]}"
-# shellcheck disable=SC2016
-printf '#!/bin/sh\nfor it in "$@"; do\n    [ "$it" != --whole ] || exit 2\ndone\nexec %q "$@"\n' "$program" >older
-chmod +x older
-archive prepare "${lost[@]}" --ssign ./older
-says 'an older ssign without --whole' 0 '1 parts, of which 1 are to be reviewed'
-archive prepare "${lost[@]}" --whole --ssign ./older
-refuses 'an older ssign with --whole' 'ssign refuses these options, or the answers: it ended with status 2'
 
 # ---- the recipe for Slurm in docs/scale.md
 sed -n 's/^    //; /^#!\/bin\/bash$/,/^exec /p' "$root/docs/scale.md" | sed -e "s:/srv/results:$scratch/slurm:" -e "s:/srv/suhvatek:$root:" >part.sbatch

@@ -117,7 +117,7 @@ harmed 'a finding more' 'its file of findings was changed since its review' put 
 harmed 'a report that is cut' 'its report was changed since its review' truncate -s -6 $place/report
 harmed 'a report of nothing' 'its report was changed since its review' put $place/report ''
 harmed 'a report that is gone' 'its report is gone since its review' rm $place/report
-harmed 'a record without the times at which its files were changed' 'nothing shows whether its files were changed since its review' \
+harmed 'a record without the times at which its files were changed' "$changed" \
     edit $place/record 'for file in it["files"]: del file["stored"]["ctime_ns"]
 resum()'
 # written COMMAND..: a command writes to a log, which then has its size and its time of before

@@ -295,12 +295,6 @@ done <<'END'
 another GBC and group|messages[at].replace(b'GBC="2"', b'GBC="1"').replace(b'SPRI="30"', b'SPRI="13"')
 a certificate block|spoil(next(it for it in messages if b"[ssign-cert " in it))
 END
-printf '#!/bin/sh\n[ "$2" != --whole ] || { echo "error: unexpected argument" >&2; exit 2; }\nexec %q "$@"\n' "$program" >older
-chmod +x older
-keys verify "${key[@]}" --ssign ./older --ignore-strangers two-groups
-expect 'an older ssign' 2 '' "error: unexpected argument
-ssign-keys: the program ./older has no \`review --whole\`, so it can't say which signature blocks are missing: name a newer one with --ssign, \
-or leave --ignore-strangers out"
 
 # ---- a block whose RSID somebody changed to that of another session with the same names
 signs third one 3 --payload "$payload"
@@ -386,22 +380,6 @@ cp log archive/gate/night-1
 timeout "$patience" "$root/tools/archive" review archive --results results "${key[@]}" --jobs 1 >out 2>err
 holds 'an archive: its session is joined, and all numbers are there' grep -Eqx 'gate +1 +[0-9]+ +10 +0 +0 +0 +7 +0 +joined 1 +7 findings' out
 
-# ---- an older program
-cat >older <<END
-#!/usr/bin/env bash
-for it in "\$@"; do
-    case \$it in --pinned*) echo "error: unexpected argument '--pinned' found" >&2; echo "For more information, try '--help'." >&2; exit 2 ;; esac
-done
-exec "$program" "\$@"
-END
-chmod +x older
-keys verify "${key[@]}" --ssign ./older log
-holds 'an older program: status 1' test "$status" = 1
-holds 'an older program: the session is disputed' grep -qx '  state: disputed; .*' out
-holds 'an older program: it is said' test "$(<err)" = "ssign-keys: the program ./older has no \`review --pinned\`, so strangers can \
-dispute a session by blocks that they didn't sign: name a newer one with --ssign"
-keys verify "${key[@]}" --ssign ./older signed
-expect 'an older program, and no stranger' 0 'SOME TEXT' ''
 
 # ---- many blocks, in little memory
 disputes octet 10000 <signed >log

@@ -21,22 +21,6 @@ keys() {
     status=$?
 }
 
-# ---- an older program is refused
-# shellcheck disable=SC2016
-printf '#!/bin/sh\nfor it in "$@"; do\n    [ "$it" != --once ] || { printf "error: unexpected argument\\n\\nFor more information, try --help.\\n" >&2; exit 2; }\ndone\nexec %q "$@"\n' "$program" >older
-chmod +x older
-for form in '' --json --raw; do
-    keys verify --key "$root/examples/signed/public-key.pem" ${form:+"$form"} --answers-out kept --ssign ./older \
-        "$root/examples/signed/signed.frames"
-    expect "an older ssign $form" 2 '' "ssign-keys: the program ./older has no \`questions --once\`, without which a payload may be repeated without end: name a newer one with --ssign"
-    holds "an older ssign $form: no answers" test ! -e kept
-done
-run questions --once --json </dev/null
-if [[ $status != 0 ]]; then
-    echo "$name: this ssign has no \`questions --once\`, so no log is verified"
-    finish
-fi
-
 # a program that counts: the octets of its questions, and the answers that it is given
 # shellcheck disable=SC2016
 printf '#!/usr/bin/env bash\nset -o pipefail\ncase $1 in\n    questions) %q "$@" | tee counted.questions ;;\n    *)\n        for it in "$@"; do\n            [[ $it != --answers=* ]] || cp -- "${it#--answers=}" counted.answers\n        done\n        exec %q "$@"\n        ;;\nesac\n' "$program" "$program" >counting

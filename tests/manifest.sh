@@ -429,6 +429,11 @@ finds 'verify: three nights' 0 'Manifest manifest: each log, its session and its
 gzip -k nights/night-1.frames
 verify nights/night-1.frames.gz
 finds 'verify: a compressed night' 0 'Manifest manifest: each log, its session and its numbers are those of its entry.'
+{ printf 'x' && cat nights/night-2.frames; } >damaged
+verify damaged
+finds 'verify: a damaged night' 1 '  damaged: unknown, no entry names this log'
+holds 'verify: a damaged night: the verdict' grep -q '^Verdict: FINDINGS: .*; 1 stretch of the log is damaged (1 octet)' out
+rm damaged
 verify nights/night-4.frames
 finds 'verify: a log without an entry' 1 'Manifest manifest: 2 findings.' '  nights/night-4.frames: unknown, no entry names this log' \
     '  session gate signer - 4: unknown, no entry of these logs has it'

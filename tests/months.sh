@@ -201,9 +201,6 @@ refused 'a night of no manifest' '--from-manifest begins at the counters of a ma
 echo 'count 1' >broken
 refused 'bad first counters' "the counters file broken: line 1: $(words_of C1)" --from broken --counters c5 "$night"
 refused 'first counters that are gone' "the counters file gone can't be read: No such file or directory" --from gone "$night"
-printf '#!/bin/sh\nfor it; do case $it in --from=*) echo "error: unexpected argument '"'--from'"' found" >&2; echo "For more information, try '"'--help'"'." >&2; exit 2 ;; esac; done\nexec %q "$@"\n' "$program" >old
-chmod +x old
-refused 'an older program' "the program ./old has no \`review --from\`, so it can't say what is missing of one night: name a newer one with --ssign, or leave --from out" --ssign ./old --from c4 "$night"
 # programs that lie about a night: what they print for a review is changed on its way
 printf '#!/bin/bash\n[[ $1 == review ]] || exec %q "$@"\n%q "$@" >lied; status=$?\nsed -E "$LIE" lied\nexit "${LIE_STATUS:-$status}"\n' "$program" "$program" >liar
 chmod +x liar

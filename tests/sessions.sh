@@ -35,12 +35,6 @@ keys sign --key long/private-key.pem log
 expect 'without --state an RSID is wanted' 2 '' 'ssign-keys: the following arguments are required: --rsid (see `ssign-keys sign --help`)'
 keys sign --key long/private-key.pem --rsid 1 log
 holds 'without --state nothing is kept' test "$status" = 0 -a "$(ls)" = $'err\nlog\nlong\nother\nout\ntold\nwork'
-# a program without --resume
-# shellcheck disable=SC2016
-printf '#!/usr/bin/env bash\nfor it; do [[ $it != --ahead ]] || { echo "error: unexpected argument '"'--ahead'"' found" >&2; echo "For more information, try '"'--help'"'." >&2; exit 2; }; done\nexec %q "$@"\n' "$program" >old
-chmod +x old
-keys sign --ssign ./old --key long/private-key.pem --state state --new-session log
-expect 'an older program' 2 '' 'ssign-keys: this ssign has no --ahead, which --state needs: use a newer one'
 
 # ---- nights of one session
 # fresh: a state, and no logs

@@ -423,54 +423,35 @@ holds 'no block at all' grep -q "^Verdict: NOTHING IS SHOWN: .* $nothing_shown\$
 keys verify --key keys/public-key.pem --whole <(printf '')
 says 'an empty log, with --whole' 1 "Verdict: NOTHING IS SHOWN: the log is empty. $nothing_shown"
 
-# an older ssign: without --whole it is called by words that it knows, and with it nothing is asked
+# an ssign of another version is refused by each command that runs it, and is asked for nothing but its version
 cp both stored
-# shellcheck disable=SC2016
-printf '#!/bin/sh\necho "$*" >>called\nfor it in "$@"; do\n    [ "$it" != --whole ] || { echo "error: unexpected argument" >&2; exit 2; }\ndone\nexec %q "$@"\n' "$program" >older
-chmod +x older
-keys verify --key keys/public-key.pem --raw stored
-cp out with
-keys verify --key keys/public-key.pem --raw --ssign ./older stored
-holds 'an older ssign without --whole: the report' cmp out with
-holds 'an older ssign without --whole: its words' cmp <(sed 's|=.*/answers |=answers |' called) \
-    <(printf '%s\n' 'review --salvage' 'questions --once --json --salvage' 'review --answers=answers --salvage')
-# one that can't read on after damage is refused, whatever the log; lines don't need that
-printf '#!/bin/sh\nfor it in "$@"; do\n    [ "$it" != --salvage ] || { printf "error: unexpected argument\\n\\nFor more information, try --help.\\n" >&2; exit 2; }\ndone\nexec %q "$@"\n' "$program" >oldest
-chmod +x oldest
-python3 -B "$root/tests/verdicts.py" harm length signed >stored 2>where
-for each in signed stored; do
-    keys verify --key keys/public-key.pem --ssign ./oldest "$each"
-    refuses "an ssign without --salvage: $each" 'ssign-keys: the program ./oldest has no `questions --salvage`, without which a damaged log can'\''t be read: name a newer one with --ssign'
-done
-keys verify --key keys/public-key.pem --lines --ssign ./oldest signed.lines
-says 'lines by an ssign without --salvage' 0 "$all_there"
-cp both stored
+printf '#!/bin/sh\necho "$*" >>called\necho ssign 0.0.9\n' >other
+chmod +x other
+while read -r given; do
+    # shellcheck disable=SC2086
+    keys $given --ssign ./other
+    refuses "another version: ${given%% *}" "ssign-keys: the program ./other is ssign 0.0.9, and it has to be $("$program" --version): name that with --ssign"
+done <<'END'
+verify --key keys/public-key.pem stored
+verify --key keys/public-key.pem --nights stored stored
+sign --key keys/private-key.pem --rsid 1 stored
+END
+SSIGN=./other keys verify --key keys/public-key.pem --answers-out unkept stored
+refuses 'another version, by the variable' "ssign-keys: the program ./other is ssign 0.0.9, and it has to be $("$program" --version): name that with --ssign"
+holds 'another version: nothing is asked' cmp <(sort -u called) <(echo --version)
+holds 'another version: no answers are kept' test ! -e unkept
 rm called
-for form in '' --json --raw; do
-    keys verify --key keys/public-key.pem --whole ${form:+"$form"} --answers-out unkept --ssign ./older stored
-    refuses "an older ssign with --whole $form" "error: unexpected argument
-ssign-keys: the program ./older has no \`review --whole\`, so it can't say which signature blocks are missing: name a newer one with --ssign, or leave --whole out"
-done
-holds 'an older ssign with --whole: nothing is asked' cmp called <(printf '%s\n' 'review --whole' 'review --whole' 'review --whole')
-holds 'an older ssign with --whole: no answers are kept' test ! -e unkept
 # shellcheck disable=SC2016
 printf '#!/bin/sh\necho "$*" >>called\nexec %q "$@"\n' "$program" >recording
 chmod +x recording
-rm called
 keys verify --key keys/public-key.pem --whole --max-len 9999 --ssign ./recording stored
-holds 'a newer ssign: its words' cmp <(sed 's|=/.*/answers |=answers |' called) \
-    <(printf '%s\n' 'review --whole' 'review --max-len=9999 --salvage' 'questions --once --json --max-len=9999 --salvage' \
+holds 'the words of ssign' cmp <(sed 's|=/.*/answers |=answers |' called) \
+    <(printf '%s\n' --version 'review --max-len=9999 --salvage' 'questions --once --json --max-len=9999 --salvage' \
         'review --answers=answers --whole --max-len=9999 --salvage')
-printf '#!/bin/sh\necho "ssign: F4" >&2\nexit 2\n' >older
-keys verify --key keys/public-key.pem --whole --ssign ./older stored
-refuses 'a refusal is no want of --whole' "ssign-keys: stored: ssign refuses with a code that it doesn't explain (F4)"
-# shellcheck disable=SC2016
-printf '#!/bin/sh\nkill -9 $$\n' >older
-keys verify --key keys/public-key.pem --whole --ssign ./older stored
-refuses 'a program that dies is no want of --whole' 'ssign-keys: ssign review was ended by the signal SIGKILL, as where memory runs out'
-printf '#!/bin/sh\nexit 2\n' >older
+printf '#!/bin/sh\nexit 2\n' >silent
+chmod +x silent
 for form in '' --json --raw; do
-    keys verify --key keys/public-key.pem ${form:+"$form"} --ssign ./older stored
+    keys verify --key keys/public-key.pem ${form:+"$form"} --ssign ./silent stored
     refuses "a program that refuses without a word${form:+, $form}" "ssign-keys: ssign review ended with the status 2, and didn't say why"
 done
 
@@ -732,20 +713,11 @@ says 'counters on standard input' 0 "$all_there Nothing is missing up to the cou
 kept 'x'
 python3 -B "$root/tests/verdicts.py" terminal "$keys_program" verify --key keys/public-key.pem --counters counters signed >out 2>err
 holds 'a bad line of counters on a terminal: the same sentence' cmp out <(bad_counters 1; printf '\nstatus 2\n')
-# shellcheck disable=SC2016
-printf '#!/bin/sh\necho "$*" >>called\nfor it in "$@"; do\n    case $it in --counters=*) echo "error: unexpected argument" >&2; exit 2 ;; esac\ndone\nexec %q "$@"\n' "$program" >older
-rm -f called
-for form in '' --json --whole; do
-    keys verify --key keys/public-key.pem --counters counters.1 ${form:+"$form"} --ssign ./older signed
-    refuses "an older ssign with --counters $form" "error: unexpected argument
-ssign-keys: the program ./older has no \`review --counters\`, so it can't say what is missing up to counters: name a newer one with --ssign, or leave --counters out"
-done
-holds 'an older ssign with --counters: nothing is asked' test "$(grep -vc '^review \(--whole \)\?--counters=[^ ]*$' called)" = 0
 rm called
 keys verify --key keys/public-key.pem --counters counters.1 --max-len 9999 --ssign ./recording signed
-says 'a newer ssign with --counters' 0 "$all_there Nothing is missing up to the counters."
-holds 'a newer ssign with --counters: its words' cmp <(sed 's#=/[^ ]*/\(answers\|counters\)#=\1#g' called) \
-    <(printf '%s\n' 'review --counters=counters' 'review --max-len=9999 --salvage' 'questions --once --json --max-len=9999 --salvage' \
+says 'the words of ssign with --counters: the verdict' 0 "$all_there Nothing is missing up to the counters."
+holds 'the words of ssign with --counters' cmp <(sed 's#=/[^ ]*/\(answers\|counters\)#=\1#g' called) \
+    <(printf '%s\n' --version 'review --counters=counters' 'review --max-len=9999 --salvage' 'questions --once --json --max-len=9999 --salvage' \
         'review --answers=answers --counters=counters --max-len=9999 --salvage')
 
 # ---- what no block signed, and hostile texts
@@ -895,7 +867,7 @@ holds 'a signed log to a full device: what is said' \
 
 # ---- signals: a program that waits is ended with ssign-keys
 # shellcheck disable=SC2016
-printf '#!/bin/sh\necho $$ >waiting\nexec sleep 100\n' >dying
+printf '#!/bin/sh\n[ "$1" != --version ] || exit\necho $$ >waiting\nexec sleep 100\n' >dying
 for signal in INT TERM HUP; do
     rm -f waiting
     python3 -B "$root/tests/verdicts.py" signal "$signal" waiting "$keys_program" verify --key keys/public-key.pem --ssign ./dying signed >out 2>err
@@ -904,7 +876,7 @@ for signal in INT TERM HUP; do
     holds "SIG$signal: its child is ended" is_gone waiting
     # a child that sends the signal as its first step: it may come before the tool knows of the child
     # shellcheck disable=SC2016
-    printf '#!/bin/sh\necho $$ >waiting\nkill -s %s $PPID\nexec sleep 100\n' "$signal" >hasty
+    printf '#!/bin/sh\n[ "$1" != --version ] || exit\necho $$ >waiting\nkill -s %s $PPID\nexec sleep 100\n' "$signal" >hasty
     chmod +x hasty
     for ((run = 0; run < 5; run++)); do
         rm -f waiting

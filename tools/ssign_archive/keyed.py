@@ -6,7 +6,7 @@ import subprocess
 from typing import Any, Dict, Iterator, List, Tuple
 
 from ssign_keys.answer import told_answers
-from ssign_keys.asking import ONCE
+from ssign_keys.asked import ONCE
 from ssign_keys.commands import BUDGET
 from ssign_keys.faults import Fault
 from ssign_keys.pinned import Search

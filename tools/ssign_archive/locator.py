@@ -102,6 +102,3 @@ class Locator(ReportVisitor):
     def torn(self, offset: int) -> None:
         """Finds a log that breaks off. Files are cut before that, so this is the last one's."""
         self._find(f"torn {offset}")
-
-    def end(self, count: int) -> None:
-        """Nothing is found by it."""

@@ -2,12 +2,12 @@
 from __future__ import annotations
 
 import argparse
-import hashlib
 import os
 import socket
 import time
 from typing import TYPE_CHECKING, BinaryIO, List, Optional
 
+from ssign_keys.digests import sum_of
 from ssign_keys.faults import Fault
 from ssign_keys.words import shown_name
 from ssign_keys.workplace import Workplace, finish, put
@@ -24,8 +24,6 @@ from .tree import files_of
 
 if TYPE_CHECKING:
     from ssign_keys.trust import Trust
-
-PIECE = 1 << 20
 
 
 def add_arguments(parser: argparse.ArgumentParser) -> None:
@@ -158,15 +156,7 @@ class PartReview:
         derived = derive(self._part, self._settings, files, self._extra, bounds, report, findings.put_finding, sessions)
         if (status == 0) != (derived.reported == 0):
             raise Fault(f"ssign review ended with status {status}, which its report doesn't bear out")
-        sums = {"report": sum_of(report), "findings": findings.sum, "sessions": sessions.sum}
+        reported = sum_of(report, 0, os.fstat(report.fileno()).st_size)[1]
+        sums = {"report": reported, "findings": findings.sum, "sessions": sessions.sum}
         return Record(settings_form.to_text(self._settings), self._given, files, sums, derived.totals, derived.states,
                       status, derived.findings, self._extra, socket.gethostname(), self._began, time.time() - self._began)
-
-
-def sum_of(file: BinaryIO) -> str:
-    """The SHA-256 of an open file."""
-    file.seek(0)
-    hasher = hashlib.sha256()
-    for piece in iter(lambda: file.read(PIECE), b""):
-        hasher.update(piece)
-    return hasher.hexdigest()

@@ -81,11 +81,6 @@ def pick(fields: object, **wanted: object) -> Dict[str, object]:
     return cast(Dict[str, object], fields)
 
 
-def filled(fields: object, **older: object) -> object:
-    """An object of JSON with what records of before don't have."""
-    return {**older, **fields} if isinstance(fields, dict) else fields
-
-
 NOTHING = type(None)
 
 
@@ -95,7 +90,7 @@ def make(fields: Dict[str, object]) -> Record:
          extra=list, host=str, began=float, seconds=float)
     files = [make_file(it) for it in cast(List[object], fields["files"])]
     pick(fields["sums"], **{name: str for name in SUMMED})
-    totals = cast(Dict[str, Optional[int]], pick(filled(fields["totals"], damaged=0, damaged_octets=0), **{
+    totals = cast(Dict[str, Optional[int]], pick(fields["totals"], **{
         name: (int, NOTHING) if name == "torn" else int for name in asdict(Totals())}))
     for it, kind in (("given", str), ("states", int)):
         if any(type(value) is not kind for value in cast(Dict[str, object], fields[it]).values()):
@@ -108,12 +103,12 @@ def make(fields: Dict[str, object]) -> Record:
 
 def make_file(fields: object) -> Read:
     """What was read of a file."""
-    read = pick(filled(fields, damaged=[]), stored=dict, place=int, messages=int, sha256=str, plain_size=int, plain_sha256=str,
+    read = pick(fields, stored=dict, place=int, messages=int, sha256=str, plain_size=int, plain_sha256=str,
                 octet=(int, NOTHING), why=str, damaged=list)
     try:
         Damage(cast(List[List[int]], read["damaged"]))
     except (TypeError, ValueError) as fault:
         raise Fault(NO_RECORD) from fault
-    stored = pick(filled(read["stored"], ctime_ns=0), name=str, size=int, mtime_ns=int, ctime_ns=int)
+    stored = pick(read["stored"], name=str, size=int, mtime_ns=int, ctime_ns=int)
     rest = {name: value for name, value in read.items() if name != "stored"}
     return Read(stored=Stored(**stored), **rest)  # type: ignore[arg-type]

@@ -15,6 +15,7 @@ import os
 import urllib.parse
 from typing import List, NamedTuple, Optional
 
+from ssign_keys.digests import digest_of
 from ssign_keys.faults import Fault
 from ssign_keys.files import reason
 from ssign_keys.json_text import compact
@@ -30,7 +31,6 @@ from .tree import Stored, files_of
 
 # a longer name of a folder is cut, and ends with a hash of all of it: file systems take 255 octets
 LONGEST_NAME = 200
-PIECE = 1 << 20
 
 
 class Kept(NamedTuple):
@@ -165,8 +165,6 @@ def stale(record: Record, part: str, settings: Settings) -> str:
     if record.settings != settings_form.to_text(settings):
         return "it was reviewed with other options, or another program or answers file"
     # which counters of a manifest are used depends on the files, so these come first
-    if any(it.stored.ctime_ns == 0 for it in record.files):
-        return "nothing shows whether its files were changed"
     if [it.stored for it in record.files] != stored_now(settings, part):
         return "its files were changed"
     for name, seen in settings.given_to(part).items():
@@ -185,16 +183,12 @@ def stored_now(settings: Settings, part: str) -> List[Stored]:
 
 def sum_of_file(path: str, what: str) -> str:
     """The SHA-256 of a file. Raises Changed where it can't be read."""
-    hasher = hashlib.sha256()
     try:
-        with open(path, "rb") as file:
-            for piece in iter(lambda: file.read(PIECE), b""):
-                hasher.update(piece)
+        return digest_of(what, path).sha256
     except FileNotFoundError as fault:
         raise Changed(f"{what} is gone") from fault
     except OSError as fault:
         raise Changed(f"{what} can't be read ({reason(fault)})") from fault
-    return hasher.hexdigest()
 
 
 def read_text(path: str) -> str:

@@ -2,7 +2,6 @@
 from __future__ import annotations
 
 import argparse
-import hashlib
 import json
 import os
 import subprocess
@@ -10,15 +9,13 @@ from dataclasses import asdict, dataclass
 from typing import Any, Dict, List, NamedTuple, Optional, Tuple
 
 from ssign_keys import expand as expand_options
-from ssign_keys.asking import refuse_older
+from ssign_keys.digests import digest_of
 from ssign_keys.faults import Fault
 from ssign_keys.files import reason
 from ssign_keys.kept import Counters
 from ssign_keys.programs import add_log_arguments, add_program_argument, find_program, log_words
-from ssign_keys.progress import Progress
 from ssign_keys.sizes import add_max_payload
 from ssign_keys.words import shown_name
-from ssign_keys.workplace import Workplace
 
 from .given import begin_for, counters_for, own_file
 from .given import sum_of as sum_of_octets
@@ -208,8 +205,6 @@ def make(arguments: argparse.Namespace) -> Settings:
     asked = [f"--answers={answers}"] if answers is not None and not os.path.isdir(answers) else []
     try_words(program, [*asked, *words])
     trust, files = trust_of(arguments)
-    if trust:
-        try_once(program, "--lines" in words)
     if trust and answers is not None:
         raise Fault("--answers says which signatures are valid, and so do --key, --session-key, --ca and --cert: "
                     "give one of "
@@ -260,23 +255,13 @@ def try_words(program: str, words: List[str]) -> None:
         raise Fault(f"ssign refuses these options, or the answers: it ended with status {tried.returncode}")
 
 
-def try_once(program: str, are_lines: bool) -> None:
-    """Refuses an older ssign once, and not for each part."""
-    with Workplace() as workplace:
-        refuse_older(program, are_lines, workplace, Progress())
-
-
 def sum_of(path: str) -> str:
     """The SHA-256 of a file."""
     look(path)
-    hasher = hashlib.sha256()
     try:
-        with open(path, "rb") as file:
-            for piece in iter(lambda: file.read(1 << 20), b""):
-                hasher.update(piece)
+        return digest_of(path, path).sha256
     except OSError as fault:
         raise Fault(f"{shown_name(path)} can't be read: {reason(fault)}") from fault
-    return hasher.hexdigest()
 
 
 def look_of(path: str) -> str:
@@ -287,11 +272,7 @@ def look_of(path: str) -> str:
 
 def to_text(settings: Settings) -> str:
     """The settings as JSON."""
-    fields = asdict(settings)
-    if not settings.from_manifest:
-        # results of before have no such word
-        del fields["from_manifest"]
-    return json.dumps(fields, indent=1, sort_keys=True) + "\n"
+    return json.dumps(asdict(settings), indent=1, sort_keys=True) + "\n"
 
 
 def from_text(text: str, path: str) -> Settings:
@@ -300,6 +281,6 @@ def from_text(text: str, path: str) -> Settings:
         read = json.loads(text)
         return Settings(read["archive"], read["program"], read["answers"], tuple(read["words"]), tuple(read["seen"]),
                         read["trust"], read["allows_sha1"], read["counters"], read["manifest"],
-                        read["max_expanded"], read.get("from_manifest", False))
+                        read["max_expanded"], read["from_manifest"])
     except (ValueError, KeyError, TypeError) as fault:
         raise Fault(f"{shown_name(path)} holds no settings of ssign-archive") from fault

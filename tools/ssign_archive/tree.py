@@ -23,7 +23,7 @@ class Stored:
     size: int
     mtime_ns: int
     ctime_ns: int
-    """When the system saw it changed last, which no writer can set; 0 in a record of before, which has none."""
+    """When the system saw it changed last, which no writer can set."""
 
 
 def stored_of(path: str, seen: os.stat_result) -> Stored:

@@ -133,12 +133,6 @@ class Survey(ReportVisitor):
         """Takes places."""
         self._name(places)
 
-    def gap(self, group: Group, number: int, why: str) -> None:
-        """Is counted already."""
-
-    def hole(self, group: Group, first: int, last: int) -> None:
-        """Is counted already."""
-
     def end_group(self, group: Group) -> None:
         """Keeps how far the group goes."""
         greatest = None if self._facts is None else self._facts.greatest.get((group.sg, group.spri))
@@ -161,9 +155,3 @@ class Survey(ReportVisitor):
     def damaged(self, stretch: Damaged) -> None:
         """Keeps it."""
         self.damage.add(stretch)
-
-    def torn(self, offset: int) -> None:
-        """Is kept already."""
-
-    def end(self, count: int) -> None:
-        """Is kept already."""

@@ -9,6 +9,8 @@ from .blocks import Block, Counters, Session
 from .encoding import is_base64
 from .faults import Fault
 
+# ssign asks about each payload once, and says what it read in each block
+ONCE = ("--once", "--json")
 # no log has so many sessions
 MOST_DIGITS = 10
 # The line of a payload, which may have 133 MB, is cut and not decoded. Its other octets are as ssign writes them.

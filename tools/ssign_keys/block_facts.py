@@ -119,10 +119,9 @@ def put_note(notes: BinaryIO, session: Optional[Session], facts: Optional[BlockF
 class Notes:
     """Reads again what was kept, beside the sessions of a report."""
 
-    def __init__(self, notes: BinaryIO, unsigned: AbstractSet[Session] = frozenset()) -> None:
+    def __init__(self, path: str, unsigned: AbstractSet[Session] = frozenset()) -> None:
         """Of the unsigned sessions it is known that they are disputed, and that no payload of them is validly signed."""
-        notes.seek(0)
-        self._notes = notes
+        self._notes = open(path, "rb")
         self._unsigned = unsigned
         self._next = self._read()
 

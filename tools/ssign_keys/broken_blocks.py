@@ -10,7 +10,7 @@ from array import array
 from dataclasses import dataclass
 from typing import BinaryIO, Iterator, NamedTuple, Optional, Sequence
 
-from .logs import Log
+from .candidates import Candidates
 from .programs import Run
 from .progress import Progress
 from .report import number_of, wrong
@@ -74,9 +74,9 @@ class Broken:
 class Search:
     """Has ssign inspect those unlisted messages that hold the mark of a block."""
 
-    def __init__(self, log: Log, unlisted: Sequence[int], progress: Progress) -> None:
+    def __init__(self, candidates: Candidates, unlisted: Sequence[int], progress: Progress) -> None:
         """Nothing is found yet."""
-        self._log = log
+        self._candidates = candidates
         self._unlisted = unlisted
         self._progress = progress
         # of each message that is inspected: its place, its length, and how many CR and LF it ends with
@@ -95,15 +95,14 @@ class Search:
     def _marked(self) -> Iterator[bytes]:
         """The unlisted messages that hold the mark, each with its frame or LF."""
         unlisted, index = self._unlisted, 0
-        walk = self._log.walk()
-        for stored in walk.candidates():
-            self._progress.show("looking for broken blocks", walk.offset, self._log.size, "octets")
-            while index < len(unlisted) and unlisted[index] < walk.place:
+        for place, stored in self._candidates.placed("looking for broken blocks"):
+            while index < len(unlisted) and unlisted[index] < place:
                 index += 1
-            if index < len(unlisted) and unlisted[index] == walk.place:
-                self._places.append(walk.place)
-                self._lengths.append(len(stored) - (1 if self._log.are_lines else stored.index(b" ") + 1))
-                self._ends.append(line_ends(stored[-LAST - 1:-1] if self._log.are_lines else stored[-LAST:]))
+            if index < len(unlisted) and unlisted[index] == place:
+                message = self._candidates.message(stored)
+                self._places.append(place)
+                self._lengths.append(len(message))
+                self._ends.append(line_ends(message[-LAST:]))
                 yield stored
 
     def _read(self, inspected: BinaryIO) -> Broken:

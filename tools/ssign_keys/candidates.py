@@ -4,7 +4,8 @@ from __future__ import annotations
 import contextlib
 import os
 import subprocess
-from typing import BinaryIO, Callable, Iterator, List, Optional, Union
+from array import array
+from typing import BinaryIO, Callable, Iterator, List, Optional, Tuple, Union
 
 from .agreement import Walked
 from .logs import Log
@@ -31,17 +32,21 @@ class Candidates:
         self._workplace = workplace
         self._progress = progress
         self._kept: Optional[BinaryIO] = None
+        # the places of those that are kept
+        self._places = array("I")
         self.walked = Walked(0, 0, 0, 0)
         """What was seen of the log."""
 
     def look(self) -> bool:
         """Goes over the log, and keeps them. Whether whole messages go to its end."""
-        log, keeper, marked = self._log, Keeper(self._workplace), 0
+        log, keeper, places = self._log, Keeper(self._workplace), array("I")
         walk = log.look(self._longest)
-        for marked, it in enumerate(walk.candidates(), 1):
+        for it in walk.candidates():
             keeper.add(it)
+            places.append(walk.place)
             self._progress.show("looking for blocks", walk.offset, log.size, "octets")
-        self.walked = Walked(walk.place, walk.offset, log.size, marked, log.damage)
+        self.walked = Walked(walk.place, walk.offset, log.size, len(places), log.damage)
+        self._places = places
         self._kept = keeper.finish()
         try:
             log.settle(walk)
@@ -51,13 +56,21 @@ class Candidates:
 
     def each(self, phase: str) -> Iterator[bytes]:
         """Each of them as it is stored, with its frame or LF. The phase is for a person at a terminal."""
+        return (it for _, it in self.placed(phase))
+
+    def placed(self, phase: str) -> Iterator[Tuple[int, bytes]]:
+        """The same, each with its place in the log, which rises."""
         if self._kept is not None:
-            yield from Walk(self._kept, self._log.are_lines).candidates()
+            yield from zip(self._places, Walk(self._kept, self._log.are_lines).candidates())
             return
         walk = self._log.walk()
         for it in walk.candidates():
-            yield it
+            yield walk.place, it
             self._progress.show(phase, walk.offset, self._log.size, "octets")
+
+    def message(self, stored: bytes) -> bytes:
+        """One of them without its frame or LF."""
+        return stored[:-1] if self._log.are_lines else stored[stored.index(b" ") + 1:]
 
     def run(self, program: str, words: List[str], out: Union[BinaryIO, int], wants: Optional[Callable[[bytes], bool]] = None) -> Run:
         """A run of ssign that was handed all of them, or those that it wants."""

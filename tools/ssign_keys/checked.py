@@ -138,11 +138,10 @@ def program_words(program: Program) -> str:
 
 def checked_logs(log: Log, messages: int) -> List[CheckedLog]:
     """The given logs, of which all together have so many messages."""
-    offsets = [*(it.offset for it in log.parts[1:]), log.size]
     places = [*(it.place for it in log.parts[1:]), messages]
     found = []
-    for part, end, place in zip(log.parts, offsets, places):
-        plain = Digest(part.name, *log.sum_of(part.offset, end))
+    for part, sums, place in zip(log.parts, log.sums(), places):
+        plain = Digest(part.name, *sums)
         packed = part.packed
         given = plain if packed is None else Digest(part.name, packed.size, packed.sha256)
         found.append(CheckedLog(given, plain if packed else None, packed, place - part.place, part.place))

@@ -113,7 +113,8 @@ class JsonVerdict(StretchVisitor):
 
     def damaged(self, stretch: Damaged) -> None:
         """Writes which octets are damaged."""
-        self._put({"line": "damaged", **stretch._asdict(), **self._file_octet(stretch.offset), "finding": "damaged"})
+        self._put({"line": "damaged", "place": stretch.place, "offset": stretch.offset, "length": stretch.length,
+                   **self._file_octet(stretch.offset), "finding": "damaged"})
 
     def torn(self, offset: int) -> None:
         """Writes where the log breaks off."""

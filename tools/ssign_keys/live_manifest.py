@@ -1,16 +1,15 @@
 """Has each ended file of `ssign-keys live` named in a manifest, with the counters with which it ends."""
 from __future__ import annotations
 
-import hashlib
 import os
 import re
 import subprocess
 from typing import Callable, Dict, List, Optional, Tuple
 
 from .blocks import Session
+from .digests import digest_of
 from .faults import Fault
 from .files import reason
-from .live_disk import PIECE
 from .live_engine import LONGEST
 from .live_state import Saved, prefix_of
 from .manifest_file import Appending
@@ -80,7 +79,7 @@ class Book:
                 gbc = max(gbc, number + 1)
         if session is None:
             raise Fault("it has no block")
-        size, sha256 = sum_of(path)
+        _, size, sha256 = digest_of(name, path)
         groups = tuple(Extent(*group, *spans[group]) for group in sorted(spans))
         return Entry(1, FIRST_SUM, present_stamp(), name, size, sha256, session, gbc, groups, None)
 
@@ -93,13 +92,3 @@ class Book:
         if ran.returncode not in (0, 1) or not lines or lines[-1][0] != b"end":
             raise Fault("ssign can't read it to its end")
         return [it for it in lines if it[0] in (b"signature", b"certificate")]
-
-
-def sum_of(path: str) -> Tuple[int, str]:
-    """How many octets a file has, and their SHA-256."""
-    hashed, size = hashlib.sha256(), 0
-    with open(path, "rb") as file:
-        for piece in iter(lambda: file.read(PIECE), b""):
-            hashed.update(piece)
-            size += len(piece)
-    return size, hashed.hexdigest()

@@ -5,7 +5,6 @@ here is asked about before it is stored. So a mistake here loses nothing.
 """
 from __future__ import annotations
 
-import functools
 import re
 
 from .written import is_stamp
@@ -19,23 +18,12 @@ ID = re.compile(rb"\[(" + NAME + rb")")
 MARK = b"ssign"
 WRAPPED = b"wrapped"
 BOM = b"\xef\xbb\xbf"
-# a TIMESTAMP whose day each month has
-EASY = re.compile(rb"-|[0-9]{4}-(?:0[1-9]|1[0-2])-(?:0[1-9]|1[0-9]|2[0-8])T(?:[01][0-9]|2[0-3]):[0-5][0-9]:[0-5][0-9]"
-                  rb"(?:\.[0-9]{1,6})?(?:Z|[+-](?:[01][0-9]|2[0-3]):[0-5][0-9])")
-# so many TIMESTAMPs are remembered, because many messages have the same
-REMEMBERED = 4096
-
-
-@functools.lru_cache(REMEMBERED)
-def is_time(stamp: bytes) -> bool:
-    """Whether this is a TIMESTAMP, or `-`."""
-    return is_stamp(stamp)
 
 
 def is_sure(message: bytes) -> bool:
     """Whether a message surely is one of RFC 5424, no block, and no wrap."""
     found = SURE.fullmatch(message)
-    if found is None or found[2] == WRAPPED or not (EASY.fullmatch(found[1]) or is_time(found[1])):
+    if found is None or found[2] == WRAPPED or not is_stamp(found[1]):
         return False
     if found[3] != b"-":
         names = ID.findall(found[3])

@@ -65,7 +65,7 @@ class Log:
         self._offsets = [it.offset for it in parts]
         self._seen = look(file)
         self.size = self._seen[0]
-        self._read: Optional[Tuple[int, str]] = None
+        self._sums: List[Tuple[int, str]] = []
 
     def rewind(self) -> BinaryIO:
         """The file, from its front on."""
@@ -84,7 +84,7 @@ class Log:
     def _damaged(self) -> Iterator[Tuple[int, int]]:
         return iter(()) if self.damage is None else self.damage.gaps()
 
-    def _gaps(self) -> Iterator[Tuple[int, int]]:
+    def _gaps(self) -> Iterable[Tuple[int, int]]:
         """What is damaged, and where each log after the first begins."""
         return iter(()) if self.are_lines else heapq.merge(self._damaged(), ((it, 0) for it in self._offsets[1:]))
 
@@ -93,7 +93,7 @@ class Log:
         stand before what is damaged."""
         if self.are_lines:
             return
-        gaps = list(itertools.zip_longest(self._gaps(), walk.passed, fillvalue=walk.place))
+        gaps = list(zip(self._gaps(), itertools.chain(walk.passed, itertools.repeat(walk.place))))
         if self.damage and [place for (_, length), place in gaps if length] != list(self.damage.places):
             raise ValueError("other messages stand between damaged octets")
         self._places = [0, *(min(place, walk.place) for (_, length), place in gaps if not length)]
@@ -104,20 +104,22 @@ class Log:
         return os.lseek(self.file.fileno(), 0, os.SEEK_CUR)
 
     def hashed(self, progress: Progress) -> Iterator[bytes]:
-        """All octets, from the front on. Those that were read last are the ones that `sum_of` is about.
+        """All octets of a file that others may write to, from the front on. From then on `sums` is about these.
 
         Whoever maps the file into memory changes it without a trace, so it may hold other octets at each time.
         """
-        hasher, total = hashlib.sha256(), 0
-        for piece in read_pieces(self.rewind(), self.parts[0].name, "reviewing", progress):
-            hasher.update(piece)
-            total += len(piece)
-            yield piece
-        self._read = total, hasher.hexdigest()
+        hasher = hashlib.sha256()
+        yield from hashed(read_pieces(self.rewind(), self.parts[0].name, "reviewing", progress), hasher)
+        self._sums = [(self.position(), hasher.hexdigest())]
 
-    def sum_of(self, start: int, end: int) -> Tuple[int, str]:
-        """How many octets lie between two, and their SHA-256: of a file that others may write to, as it was read last."""
-        return sum_of(self.file, start, end) if self.is_copy or self._read is None else self._read
+    def spans(self) -> Iterator[Tuple[Part, int]]:
+        """Each part, with the octet at which the next one begins, or the log ends."""
+        return zip(self.parts, [*self._offsets[1:], self.size])
+
+    def sums(self) -> List[Tuple[int, str]]:
+        """How many octets each part has, and their SHA-256. They are read for it once."""
+        self._sums = self._sums or [sum_of(self.file, part.offset, end) for part, end in self.spans()]
+        return self._sums
 
     def check_unchanged(self) -> None:
         """Refuses a file that somebody wrote to meanwhile, since two runs over it may have read two logs."""
@@ -222,9 +224,10 @@ def spool_log(name: str, source: BinaryIO, max_expanded: Optional[int], spool: B
         return None
     # how long it is, a pipe says only at its end
     with workplace.new_file("packed") as packed:
-        put_all(packed, pieces)
+        hasher = hashlib.sha256()
+        put_all(packed, hashed(pieces, hasher))
         most = most_expanded(packed.tell(), max_expanded)
-        given = Packed(form, *sum_of(packed, 0, packed.tell()))
+        given = Packed(form, packed.tell(), hasher.hexdigest())
         packed.seek(0)
         grown = expanded_zstd(name, packed, workplace) if form == "zstd" else \
             expanded(name, form, read_pieces(packed, name, "expanding the log", progress))
@@ -238,6 +241,13 @@ def put_all(file: BinaryIO, pieces: Iterable[bytes]) -> None:
     for piece in pieces:
         put(file, piece)
     finish(file)
+
+
+def hashed(pieces: Iterable[bytes], hasher: "hashlib._Hash") -> Iterator[bytes]:
+    """The same pieces, which the hasher gets too."""
+    for piece in pieces:
+        hasher.update(piece)
+        yield piece
 
 
 def read_pieces(source: BinaryIO, name: str, phase: str, progress: Progress) -> Iterator[bytes]:

@@ -5,14 +5,12 @@ import argparse
 from typing import BinaryIO, Dict, List, Optional, Sequence, Tuple
 
 from .blocks import Session
-from .digests import Digest, sum_of
+from .digests import Digest
 from .faults import Fault
-from .kept import Counters
 from .logs import Log
 from .manifest_findings import Found, Names, Reviewed, Stored, bare, of_manifest, of_review, of_sessions, seen_up_to
 from .manifest_form import Entry, Extent, Manifest, Mark, Reached, read_manifest, read_mark
-from .progress import Progress
-from .report import Group, Reading, ReportVisitor
+from .report import Group, ReportVisitor
 from .words import counted, shown_name
 from .workplace import put, notify
 
@@ -27,10 +25,9 @@ def read_marks(arguments: argparse.Namespace) -> Tuple[Optional[Mark], Optional[
 class Extents(ReportVisitor):
     """Keeps the states of the sessions, and the first and last number of each group."""
 
-    def __init__(self, counters: Optional[Counters], begin: Optional[Counters]) -> None:
-        """The counters that the review was given, and those with which the night begins."""
-        # a report that was made with counters, or of a damaged log, has more lines
-        super().__init__(True, Counters() if begin is None else counters, begin, True)
+    def __init__(self) -> None:
+        """Nothing is read yet."""
+        super().__init__()
         self.reviewed = Reviewed({}, {}, {})
         self._first = 0
 
@@ -50,22 +47,10 @@ class Extents(ReportVisitor):
         """The group counts it."""
         self._first = self._first or number
 
-    def hole(self, group: Group, first: int, last: int) -> None:
-        """The group counts them."""
-
     def end_group(self, group: Group) -> None:
         """Keeps its numbers."""
         self.reviewed.groups.setdefault(group.session, []).append(Extent(group.sg, group.spri, group.first, group.last))
         self.reviewed.announced.setdefault(group.session, []).append(Extent(group.sg, group.spri, self._first, group.last))
-
-    def stray(self, kind: str, place: int, cause: str) -> None:
-        """No session has it."""
-
-    def torn(self, offset: int) -> None:
-        """No session has it."""
-
-    def end(self, count: int) -> None:
-        """Nothing more comes."""
 
 
 class Listed:
@@ -81,6 +66,8 @@ class Listed:
         # the sizes and the SHA-256 of the logs as they were compared
         self._sums: List[Tuple[int, str]] = []
         self.found: List[Found] = []
+        # beside the survey of the report
+        self.extents = Extents()
 
     @classmethod
     def from_arguments(cls, arguments: argparse.Namespace) -> Optional[Listed]:
@@ -104,18 +91,15 @@ class Listed:
         """Compares the logs with their entries. Gives the counters of these, as lines of a counters file."""
         names = Names(self._manifest)
         self.found = of_manifest(self._manifest, self._kept, self._seen)
-        ends = [*(it.offset for it in log.parts[1:]), log.size]
-        for part, end in zip(log.parts, ends):
-            size, sha256 = sum_of(log.file, part.offset, end)
-            self._sums.append((size, sha256))
+        self._sums = log.sums()
+        for part, (size, sha256) in zip(log.parts, self._sums):
             name = "" if part.name == "-" else bare(part.name.rpartition("/")[2])
             self._take(names, Stored(shown_name(part.name), name, size, sha256))
         return [f"{line}\n".encode("ascii") for it in self._entries for line in it.counters]
 
     def refuse_other(self, log: Log) -> None:
         """Refuses a log of which other octets were reviewed than were compared."""
-        ends = [*(it.offset for it in log.parts[1:]), log.size]
-        if self._sums != [log.sum_of(part.offset, end) for part, end in zip(log.parts, ends)]:
+        if self._sums != log.sums():
             raise log.changed()
 
     def begin(self) -> bytes:
@@ -148,22 +132,17 @@ class Listed:
         self._labels[entry.number] = stored.label
         self._entries.append(entry)
 
-    def compare(self, report: BinaryIO, counters: Optional[Counters], begin: Optional[Counters]) -> None:
-        """Compares the sessions and numbers of the entries with those of a report."""
-        visitor = Extents(counters, begin)
-        Reading(visitor).read(report, Progress())
+    def compare(self) -> int:
+        """Compares the sessions and numbers of the entries with those of the report. Gives all findings' number."""
+        reviewed = self.extents.reviewed
         nights: Dict[Session, List[Entry]] = {}
         for it in self._entries:
             nights.setdefault(it.session, []).append(it)
         for entries in nights.values():
-            found = of_review(entries, self._labels[entries[0].number], visitor.reviewed)
+            found = of_review(entries, self._labels[entries[0].number], reviewed)
             if found is not None:
                 self.found.append(found)
-        self.found += of_sessions(self._entries, visitor.reviewed)
-
-    def count(self, report: BinaryIO, counters: Optional[Counters], begin: Optional[Counters]) -> int:
-        """Compares a report, and gives how many findings there are in all."""
-        self.compare(report, counters, begin)
+        self.found += of_sessions(self._entries, reviewed)
         return len(self.found)
 
     def sentence(self) -> str:

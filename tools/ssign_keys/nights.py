@@ -11,7 +11,7 @@ import os
 from dataclasses import dataclass, field
 from typing import BinaryIO, Dict, Iterator, List, NamedTuple, Optional, Sequence, Tuple
 
-from . import checked, details, json_verdict, program_facts, strangers, times
+from . import checked, json_verdict, program_facts, strangers, times
 from .blocks import Session
 from .cli import main
 from .commands import BUDGET
@@ -40,7 +40,7 @@ OF_ONE_LOG = {"whole": "whole", "counters": "counters", "from": "begin", "manife
               "from-manifest": "from_manifest", "raw": "raw", "details": "details", "hostname": "hostname", "findings": "findings",
               "html": "html", "answers-out": "answers_out", "counters-out": "counters_out"}
 # what a check of a night loads where it comes to it: loaded here, before the nights are forked, it is loaded once
-LOADED = (checked, details, json_verdict, program_facts, times)
+LOADED = (checked, json_verdict, program_facts, times)
 # a longer line of what is said of one night is cut
 MOST_SAID = 2000
 

@@ -8,6 +8,7 @@ from __future__ import annotations
 
 import base64
 import subprocess
+from itertools import chain
 from typing import Callable, Dict, FrozenSet, Iterable, Iterator, List, NamedTuple, Optional, Sequence, Set, Tuple
 
 from .answer import answers
@@ -19,7 +20,7 @@ from .payloads import state_key
 from .programs import Refused, Run
 from .progress import Progress
 from .trust import Trust, Trusted
-from .words import grouped, shown_name
+from .words import grouped
 from .workplace import Workplace, finish, put
 
 # Of one session, so many different fragments are kept that nobody is known to have signed. More can be there only if strangers,
@@ -81,10 +82,7 @@ class Search:
             for text in texts:
                 put(file, b"trust %s\n" % base64.b64encode(text))
             finish(file)
-        words = [f"--pinned={self._workplace.path('pinned')}"]
-        if not self._has_option(words):
-            return Known([], self._sentences, unsigned)
-        return Known(words, self._sentences, unsigned, self._asks)
+        return Known([f"--pinned={self._workplace.path('pinned')}"], self._sentences, unsigned, self._asks)
 
     def _asks(self, stored: bytes) -> bool:
         """Whether a message isn't a certificate block of a disputed session that none of its keys signed.
@@ -97,26 +95,21 @@ class Search:
             return True
         return hash((base64.b64encode(found.octets), found.signature)) in self._signed
 
-    def _has_option(self, words: List[str]) -> bool:
-        """Whether the program knows the option. An empty log shows it."""
-        try:
-            Run(self._program, ["review", *words], self._workplace, self._progress, subprocess.DEVNULL,
-                subprocess.DEVNULL).end(lambda: None)
-        except Refused as refused:
-            if refused.code is not None or refused.mistake is None:
-                raise
-            self._sentences.append(f"the program {shown_name(self._program)} has no `review --pinned`, so strangers can dispute a "
-                                   "session by blocks that they didn't sign: name a newer one with --ssign")
-            return False
-        return True
-
     # ---- sessions
 
     def _find_disputed(self) -> Set[Session]:
-        """The sessions whose certificate blocks contradict each other, by a review of these blocks alone."""
+        """The sessions whose certificate blocks contradict each other, by a review of these blocks alone.
+
+        One block and its copies contradict nothing, so there is no such review if no other block follows the first.
+        """
+        blocks = self._certificates()
+        first = next(blocks, None)
+        other = next((it for it in blocks if it != first), None)
+        if first is None or other is None:
+            return set()
         report = self._workplace.new_file("disputed")
         reviewing = Run(self._program, ["review", *self._words], self._workplace, self._progress, subprocess.PIPE, report)
-        reviewing.feed(self._certificates())
+        reviewing.feed(chain([first, other], blocks))
         try:
             reviewing.end(lambda: None)
         except Refused:

@@ -4,17 +4,14 @@ from __future__ import annotations
 import hashlib
 import os
 import shutil
-import subprocess
 from typing import Dict, NamedTuple, Optional, Tuple
 
 from . import VERSION
-from .commands import PATIENCE
 from .digests import digest_of
-from .programs import usual_program
-from .words import shown, shown_name
+from .programs import said, usual_program
+from .words import shown_name
 
 SCRIPT = b"#!"
-LONGEST = 200
 
 
 class Program(NamedTuple):
@@ -36,26 +33,12 @@ class Program(NamedTuple):
         return {"path": shown_name(self.path), "version": self.version, "sha256": self.sha256}
 
 
-def said(program: str, word: str) -> Optional[str]:
-    """What a program prints for a word: its one line, or None where that isn't what it does."""
-    try:
-        done = subprocess.run([program, word], stdin=subprocess.DEVNULL, stdout=subprocess.PIPE, stderr=subprocess.DEVNULL,
-                              timeout=PATIENCE, check=False)
-    except (OSError, ValueError, subprocess.SubprocessError):
-        return None
-    line = done.stdout.rstrip(b"\n")
-    if done.returncode != 0 or not line or b"\n" in line:
-        return None
-    return os.fsdecode(line)
-
-
 def ssign_facts(program: str, naming: str) -> Program:
     """The program ssign. `naming` is what named it, if it isn't the one that is run where nobody names one."""
     path, sha256 = found_at(program)
-    version = said(program, "--version")
     usual = usual_program()
     is_other = program != usual and (usual is None or sha256 is None or found_at(usual)[1] != sha256)
-    return Program(path, None if version is None else shown(os.fsencode(version))[:LONGEST], sha256,
+    return Program(path, said(program, "--version"), sha256,
                    f"named by {naming}, not the one that belongs to ssign-keys" if is_other else "")
 
 

@@ -2,6 +2,7 @@
 from __future__ import annotations
 
 import argparse
+import functools
 import os
 import re
 import select
@@ -10,9 +11,11 @@ import signal
 import subprocess
 from typing import BinaryIO, Callable, Dict, Iterable, Iterator, List, Optional, Sequence, Union
 
+from . import VERSION
+from .commands import PATIENCE
 from .faults import Fault
 from .progress import Progress
-from .words import shown_name
+from .words import shown, shown_name
 from .workplace import Workplace, finish, notify, put
 
 # `ssign: F1 0`, the line of a refusal
@@ -22,6 +25,8 @@ MISTAKE = "error: "
 MORE = "For more information, try"
 HELD = 100
 PAUSE = 0.2
+# so much is shown of the version that a program states
+LONGEST = 200
 # a line of questions may have as many octets as a payload of the greatest length in base64, and more
 PIECE = 1 << 20
 
@@ -47,14 +52,32 @@ BESIDE = (os.path.join("..", "..", "ssign"), os.path.join("..", "..", "..", "bin
 
 
 def find_program(arguments: argparse.Namespace) -> str:
-    """The ssign to run."""
-    named = arguments.ssign or os.environ.get("SSIGN")
-    if named:
-        return str(named)
-    found = usual_program()
-    if found is None:
+    """The ssign to run. One of another version is refused, because each of the two reads what the other writes.
+
+    If it states no version, it is no ssign, or can't be run: that is found where it is run next.
+    """
+    program = arguments.ssign or os.environ.get("SSIGN") or usual_program()
+    if not program:
         raise Fault("there is no program ssign here: name it with --ssign, or with the variable SSIGN")
-    return found
+    version = said(program, "--version")
+    if version is not None and version != f"ssign {VERSION}":
+        raise Fault(f"the program {shown_name(program)} is {shown(os.fsencode(version))[:LONGEST]}, and it has to be "
+                    f"ssign {VERSION}: name that with --ssign")
+    return str(program)
+
+
+@functools.lru_cache(maxsize=None)
+def said(program: str, word: str) -> Optional[str]:
+    """What a program prints for a word: its one line, or None where that isn't what it does."""
+    try:
+        done = subprocess.run([program, word], stdin=subprocess.DEVNULL, stdout=subprocess.PIPE,
+                              stderr=subprocess.DEVNULL, timeout=PATIENCE, check=False)
+    except (OSError, ValueError, subprocess.SubprocessError):
+        return None
+    line = done.stdout.rstrip(b"\n")
+    if done.returncode != 0 or not line or b"\n" in line:
+        return None
+    return os.fsdecode(line)
 
 
 def usual_program() -> Optional[str]:

@@ -131,8 +131,6 @@ def mistake(text: str, arguments: argparse.Namespace) -> str:
     foreign = not_utf8(arguments)
     if "UTF-8" in text and foreign is not None:
         return f"--{foreign.option} {quoted(foreign.text)}: it isn't UTF-8"
-    if re.search("'--(resume|ahead)'", text):
-        return f"this ssign has no {'--resume' if 'resume' in text else '--ahead'}, which --state needs: use a newer one"
     if "UTF-8" in text:
         return "the folder for passing files has a name that isn't UTF-8: TMPDIR names another one"
     return text
@@ -140,8 +138,7 @@ def mistake(text: str, arguments: argparse.Namespace) -> str:
 
 def warn_of_form(log: Log) -> None:
     """Says of frames that are read as lines, which --lines alone can ask for, that they look like frames."""
-    ends = [it.offset for it in log.parts[1:]] + [log.size]
-    for part, end in zip(log.parts, ends):
+    for part, end in log.spans():
         if log.are_lines and part.offset < end and is_surely_framed(read_at(log.file, part.offset, FRONT)):
             notify(f"ssign-keys: warning: {named(part.name)}: this looks like octet-counted frames, and is read as lines")
 

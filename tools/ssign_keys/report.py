@@ -7,7 +7,6 @@ from __future__ import annotations
 
 import operator
 import re
-from abc import ABC, abstractmethod
 from dataclasses import dataclass
 from typing import BinaryIO, Dict, Iterator, List, Optional, Sequence, Tuple
 
@@ -116,8 +115,11 @@ class Totals:
         self.out_of_order += group.out_of_order
 
 
-class ReportVisitor(ABC):
-    """Tells of the lines of a report, one after the other. What is counted stands in `totals` and `states`."""
+class ReportVisitor:
+    """Tells of those lines of a report that it has a method for, one after the other.
+
+    What is counted stands in `totals` and `states`.
+    """
 
     def __init__(self, is_whole: bool = False, counters: Optional[Counters] = None, begin: Optional[Counters] = None,
                  is_salvaged: bool = False) -> None:
@@ -135,27 +137,21 @@ class ReportVisitor(ABC):
         is_asked = is_whole or counters is not None or begin is not None
         self.missing: Optional[int] = 0 if is_asked else None
 
-    @abstractmethod
     def session(self, session: Session, state: str) -> None:
         """Tells of a session."""
 
-    @abstractmethod
     def begin_group(self, group: Group) -> None:
         """Tells that the lines of a group follow."""
 
-    @abstractmethod
     def listed(self, group: Group, numbers: Sequence[int], places: Sequence[int]) -> None:
         """Tells of messages that are listed under these numbers, at these places."""
 
-    @abstractmethod
     def gap(self, group: Group, number: int, why: str) -> None:
         """Tells of a number without its message."""
 
-    @abstractmethod
     def hole(self, group: Group, first: int, last: int) -> None:
         """Tells of numbers that no block announces."""
 
-    @abstractmethod
     def end_group(self, group: Group) -> None:
         """Reports a group of which all lines were read."""
 
@@ -168,18 +164,15 @@ class ReportVisitor(ABC):
     def missing_blocks(self, session: Session, first: int, last: int) -> None:
         """Tells of values of GBC that no verified signature block has. Only a whole report has such a line."""
 
-    @abstractmethod
     def stray(self, kind: str, place: int, cause: str) -> None:
         """Tells of a message that is `unlisted`, `refused` or, for a cause, `spoilt`."""
 
     def damaged(self, stretch: Damaged) -> None:
         """Reports damaged octets. Only --salvage brings such a line about."""
 
-    @abstractmethod
     def torn(self, offset: int) -> None:
         """Tells where the log breaks off."""
 
-    @abstractmethod
     def end(self, count: int) -> None:
         """Tells how many messages there are."""
 
@@ -202,10 +195,14 @@ def text_of(octets: bytes) -> str:
 
 
 class Reading:
-    """Goes over a report, counts, and has a visitor tell."""
+    """Goes over a report, counts, and has visitors tell."""
 
-    def __init__(self, visitor: ReportVisitor) -> None:
-        self._visitor = visitor
+    def __init__(self, *visitors: ReportVisitor) -> None:
+        """Each of these is handed each line. All count as one, and the first one says which lines are asked for."""
+        self._visitors = visitors
+        self._visitor = visitors[0]
+        for it in visitors:
+            it.totals, it.states = self._visitor.totals, self._visitor.states
         self._session = Session(b"", b"", b"", b"")
         self._state = ""
         self._group: Optional[Group] = None
@@ -264,7 +261,8 @@ class Reading:
 
     def _list(self, group: Group, numbers: List[int], places: List[int]) -> None:
         group.list(numbers, places)
-        self._visitor.listed(group, numbers, places)
+        for it in self._visitors:
+            it.listed(group, numbers, places)
 
     def _take(self, line: bytes) -> None:
         word, *fields = line.split(b" ")
@@ -294,14 +292,19 @@ class Reading:
             self._take_stray(word.decode("ascii"), fields)
         elif word == b"damaged" and self._visitor.is_salvaged:
             self._take_damaged(fields)
-        elif word == b"torn":
-            self._visitor.totals.torn = number_of(fields[0])
-            self._visitor.torn(self._visitor.totals.torn)
-        elif word == b"end":
-            self._visitor.totals.messages = number_of(fields[0])
-            self._visitor.end(self._visitor.totals.messages)
+        elif word in (b"torn", b"end"):
+            self._take_end(word, number_of(fields[0]))
         else:
             raise wrong(f"it has a line that wasn't asked for, {text_of(line)}")
+
+    def _take_end(self, word: bytes, number: int) -> None:
+        for it in self._visitors:
+            if word == b"torn":
+                it.totals.torn = number
+                it.torn(number)
+            else:
+                it.totals.messages = number
+                it.end(number)
 
     def _take_session(self, fields: List[bytes]) -> None:
         session, state = Session(*fields[:4]), fields[4].decode("ascii", "replace")
@@ -312,7 +315,8 @@ class Reading:
         self._check_outside()
         self._session, self._state, self._before = session, state, (-1, -1)
         self._visitor.states[state] = self._visitor.states.get(state, 0) + 1
-        self._visitor.session(session, state)
+        for it in self._visitors:
+            it.session(session, state)
 
     def _check_session(self, fields: List[bytes]) -> None:
         """Sees that a line is about the present session, below whose line it stands."""
@@ -342,7 +346,8 @@ class Reading:
         self._outside[key] = self._outside.get(key, 0) - count
         self._visitor.totals.early += count if is_early else 0
         self._visitor.totals.beyond += 0 if is_early else count
-        self._visitor.outside(self._session, sg, spri, first, last, is_early)
+        for it in self._visitors:
+            it.outside(self._session, sg, spri, first, last, is_early)
 
     def _check_outside(self) -> None:
         """Sees that each announced number outside of the night has its line, and no other number has one."""
@@ -356,7 +361,8 @@ class Reading:
         if not self._begin_of(sg, spri) <= first <= last:
             raise wrong(f"it has a tail from {first} to {last}")
         self._visitor.totals.tails += last - first + 1
-        self._visitor.tail(self._session, sg, spri, first, last)
+        for it in self._visitors:
+            it.tail(self._session, sg, spri, first, last)
 
     def _take_blocks(self, fields: List[bytes]) -> None:
         self._check_session(fields)
@@ -364,8 +370,9 @@ class Reading:
         begin = self._visitor.begin
         if last < first or begin is not None and first < (begin.next_gbc(self._session) or 0):
             raise wrong(f"it has missing blocks from {first} to {last}")
-        self._visitor.missing = (self._visitor.missing or 0) + last - first + 1
-        self._visitor.missing_blocks(self._session, first, last)
+        for it in self._visitors:
+            it.missing = (it.missing or 0) + last - first + 1
+            it.missing_blocks(self._session, first, last)
 
     def _take_stray(self, kind: str, fields: List[bytes]) -> None:
         place, totals = number_of(fields[0]), self._visitor.totals
@@ -373,7 +380,8 @@ class Reading:
             raise wrong(f"the place {place} follows the place {self._place}")
         self._place = place
         setattr(totals, kind, getattr(totals, kind) + 1)
-        self._visitor.stray(kind, place, fields[1].decode("ascii", "replace") if fields[1:] else "")
+        for it in self._visitors:
+            it.stray(kind, place, fields[1].decode("ascii", "replace") if fields[1:] else "")
 
     def _take_damaged(self, fields: List[bytes]) -> None:
         stretch, totals = Damaged(*map(number_of, fields)), self._visitor.totals
@@ -383,7 +391,8 @@ class Reading:
             raise wrong(f"it has {fault}") from fault
         totals.damaged += 1
         totals.damaged_octets += stretch.length
-        self._visitor.damaged(stretch)
+        for it in self._visitors:
+            it.damaged(stretch)
 
     def _take_number(self, word: bytes, fields: List[bytes]) -> None:
         self._check_session(fields)
@@ -398,7 +407,8 @@ class Reading:
             self._before = sg, spri
             group = self._group = Group(self._session, sg, spri, begin=self._begin_of(sg, spri), end=self._end_of(sg, spri))
             self._front = b" ".join([b"ok", *fields[:6], b""])
-            self._visitor.begin_group(group)
+            for it in self._visitors:
+                it.begin_group(group)
         if word == b"ok":
             self._list(group, [number], [number_of(fields[7])])
         elif word == b"gap":
@@ -409,7 +419,8 @@ class Reading:
                 raise wrong(f"it has a hole from {number} to {last}, before the night")
             group.reach(number, last)
             group.unannounced += last - number + 1
-            self._visitor.hole(group, number, last)
+            for it in self._visitors:
+                it.hole(group, number, last)
 
     def _take_gap(self, group: Group, number: int, why: str) -> None:
         group.reach(number, number)
@@ -420,7 +431,8 @@ class Reading:
             group.disputed += 1
         else:
             raise wrong(f"number {number} is {text_of(why.encode('ascii', 'replace'))}")
-        self._visitor.gap(group, number, why)
+        for it in self._visitors:
+            it.gap(group, number, why)
 
     def _close_group(self) -> None:
         group = self._group
@@ -429,7 +441,8 @@ class Reading:
                 if count:
                     self._outside[group.sg, group.spri, is_early] = count
             self._visitor.totals.add(group)
-            self._visitor.end_group(group)
+            for it in self._visitors:
+                it.end_group(group)
         self._group, self._front = None, b""
 
 

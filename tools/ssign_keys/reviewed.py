@@ -11,7 +11,15 @@ from .verdict import Facts
 from .block_facts import Notes
 
 if TYPE_CHECKING:
-    from .details import Details
+    from .checked import Checked
+    from .times import Times
+
+
+class Details(NamedTuple):
+    """What was checked, and the times that messages state."""
+
+    checked: Checked
+    times: Times
 
 
 class Reviewed(NamedTuple):

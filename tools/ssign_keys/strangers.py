@@ -14,8 +14,7 @@ from collections import Counter
 from typing import Dict, List, NamedTuple, Set, Tuple
 
 from .blocks import Session, read_block
-from .logs import Log
-from .progress import Progress
+from .candidates import Candidates
 from .reach import Reach
 
 # what follows RSID in the element of a signature block, and of a certificate block (RFC 5848, sections 4.2 and 5.3.2)
@@ -69,21 +68,21 @@ def ignored_words(count: int) -> str:
     return f"{count:,} unverified blocks were ignored: they claim joined sessions, aren't validly signed, and change nothing"
 
 
-def count_strangers(log: Log, refused: "array[int]", joined: Set[Session], reach: Reach, progress: Progress) -> Dict[Session, Claims]:
+def count_strangers(candidates: Candidates, refused: "array[int]", joined: Set[Session],
+                    reach: Reach) -> Dict[Session, Claims]:
     """How many of the blocks at these rising places claim each of these sessions, which go so far."""
     found: Dict[Session, Claims] = {}
     if not refused or not joined:
         return found
     gbcs, numbers = reached(reach, joined)
-    index, walk = 0, log.walk()
-    for stored in walk.candidates():
-        progress.show("looking at unverified blocks", walk.offset, log.size, "octets")
+    index = 0
+    for place, stored in candidates.placed("looking at unverified blocks"):
         if index == len(refused):
             break
-        if refused[index] != walk.place:
+        if refused[index] != place:
             continue
         index += 1
-        octets = stored if log.are_lines else stored[stored.index(b" ") + 1:]
+        octets = candidates.message(stored)
         block = read_block(octets)
         if block is None or block.session not in joined:
             continue

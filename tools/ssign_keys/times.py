@@ -25,11 +25,11 @@ STEP = 1 << 12
 class Owners(StretchVisitor):
     """Keeps which session has the message at each place, and the places next to what is missing."""
 
-    def __init__(self, survey: Survey) -> None:
-        """Nothing is read yet."""
+    def __init__(self, survey: Survey, messages: int) -> None:
+        """The survey is made at the same time. The log has so many messages."""
         super().__init__(survey)
         # the number of a session, from 1; 0 where none lists the message
-        self.owners = array("I", bytes(4 * survey.totals.messages))
+        self.owners = array("I", bytes(4 * messages))
         self.sessions: List[Session] = []
         self.wanted: Set[int] = set()
 
@@ -57,15 +57,6 @@ class Owners(StretchVisitor):
     def _want(self, neighbour: Optional[Neighbour]) -> None:
         if neighbour is not None:
             self.wanted.add(neighbour[1])
-
-    def stray(self, kind: str, place: int, cause: str) -> None:
-        """Whoever shows it has its text, with its time."""
-
-    def torn(self, offset: int) -> None:
-        """Has no time."""
-
-    def end(self, count: int) -> None:
-        """Nothing more comes."""
 
 
 class Times:

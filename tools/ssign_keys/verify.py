@@ -17,7 +17,7 @@ from . import strangers
 from . import trust as trust_options
 from .agreement import Survey
 from .answer import told_answers
-from .asking import ONCE, refuse_older
+from .asked import ONCE
 from .damage import Damage
 from .blocks import Session
 from .broken_blocks import Broken, Search
@@ -40,8 +40,8 @@ from .text_verdict import TextVerdict
 from .programs import Refused, Run, add_limit_arguments, add_program_argument, find_program, log_words
 from .progress import Progress
 from .refusals import fault_of, warn_of_form
-from .report import Reading, wrong
-from .reviewed import Reviewed
+from .report import Reading, ReportVisitor, wrong
+from .reviewed import Details, Reviewed
 from .salvage import SALVAGE, salvage
 from .finder import Finder
 from .stamped import NONE, Stamps, check_stamps
@@ -52,10 +52,10 @@ from .words import shown_name
 from .workplace import Workplace, finish, put, notify
 
 if TYPE_CHECKING:
-    from .details import Details
     from .json_verdict import JsonVerdict
     from .manifested import Listed
-    from .times import Times
+    from .page import Page
+    from .times import Owners, Times
 
 # A form that isn't asked for, and what is shown in it, is loaded where it is made: all of them take a fifth of a start.
 TOOL = "ssign-keys"
@@ -158,9 +158,9 @@ class Verification:
             if is_detailed(arguments):
                 reviewed = reviewed._replace(details=self._details(verifier, reviewed, trust, listed))
             verifier.name_unused(trust)
-            pieces = verifier.output(reviewed, arguments, listed)
+            pieces = verifier.show(reviewed, arguments, listed)
             if arguments.html is not None:
-                page_file.prepare(verifier.page(reviewed, listed))
+                page_file.prepare(verifier.page_path)
             if arguments.counters_out is not None:
                 counters_out.keep(verifier.count())
             log.check_unchanged()
@@ -182,16 +182,15 @@ class Verification:
             log.are_lines = False
         warn_of_form(log)
         if listed is not None:
-            missing = add_counters(missing, listed.look(log), program, workplace, progress)
+            missing = add_counters(missing, listed.look(log), workplace)
             if arguments.from_manifest:
-                missing = add_begin(missing, listed.begin(), program, workplace, progress)
+                missing = add_begin(missing, listed.begin(), workplace)
         candidates = Candidates(log, longest(arguments), workplace, progress)
         return log, Verifier(program, log_words(arguments, log.are_lines), missing, log, candidates, workplace, progress)
 
     def _details(self, verifier: Verifier, reviewed: Reviewed, trust: Trust, listed: Optional[Listed]) -> Details:
         """What was checked, and the times of the log."""
         from .checked import checked_logs, make_checked
-        from .details import Details
         from .program_facts import ssign_facts, tool_facts
         programs = tool_facts(TOOL), ssign_facts(self._program, "--ssign" if self._arguments.ssign else "the variable SSIGN")
         logs = checked_logs(reviewed.log, reviewed.survey.totals.messages)
@@ -199,7 +198,7 @@ class Verification:
         answers = digest_of(self._arguments.answers_out or "", verifier.answers_path)
         checked = make_checked(self._arguments, self._time, programs, logs, [*trust.given, *self._stamps.authorities], files,
                                answers, self._stamps.stamped)
-        return Details(checked, verifier.times(reviewed))
+        return Details(checked, verifier.times())
 
     def fault_of(self, refused: Refused) -> Optional[Fault]:
         """What is said of a refusal of ssign; None where all was said."""
@@ -234,13 +233,14 @@ class Verifier:
         self._workplace = workplace
         self._progress = progress
         self.answers_path = workplace.path("answers")
+        self.page_path = workplace.path("page")
         self._report = workplace.new_file("report")
-        self._notes = workplace.new_file("notes")
         self._candidates = candidates
         # how many blocks have a valid signature
         self._valid = 0
         # the payloads that are known beforehand
         self._known = Known([], [])
+        self._owners: Optional[Owners] = None
 
     def answer(self, trust: Trust, jobs: int) -> None:
         """Has ssign ask, and keeps what holds as the answers file, and what valid blocks vouch for as notes."""
@@ -251,8 +251,6 @@ class Verifier:
             asks = self._known.asks if self._known.words else None
             self._keep(self._candidates.run(self._program, words, subprocess.PIPE, asks), trust, jobs)
         except Refused as refused:
-            if refused.code is None:
-                refuse_older(self._program, self._log.are_lines, self._workplace, self._progress)
             self._refuse(refused)
             raise
         self._log.check_unchanged()
@@ -293,13 +291,14 @@ class Verifier:
 
     def _keep(self, asking: Run, trust: Trust, jobs: int) -> None:
         """Answers the questions of a run, and keeps the answers, and what they vouch for."""
-        with self._workplace.new_file("answers") as file, \
+        with self._workplace.new_file("answers") as file, self._workplace.new_file("notes") as notes, \
                 told_answers(asking.lines(lambda: None), trust, jobs) as answered:
-            for count, it in enumerate(noted(answered, self._notes), 1):
+            for count, it in enumerate(noted(answered, notes), 1):
                 put(file, it.line)
                 self._valid += it.line.startswith(b"yes ")
                 self._progress.show("checking signatures", count, 0, "valid blocks")
             finish(file)
+            finish(notes)
         for sentence in answered.counts.sentences():
             self._progress.clear()
             notify(f"ssign-keys: {sentence}")
@@ -319,33 +318,39 @@ class Verifier:
         if listed is not None:
             listed.refuse_other(self._log)
         is_whole, counters, begin = bool(self.missing.words), self.missing.counters, self.missing.begin
-        survey = Survey(self._candidates.walked, self._read_notes(), is_whole, counters, begin)
-        Reading(survey).read(self._report, self._progress)
+        walked = self._candidates.walked
+        survey = Survey(walked, self._read_notes(), is_whole, counters, begin)
+        beside: List[ReportVisitor] = [] if listed is None else [listed.extents]
+        if is_detailed(arguments):
+            from .times import Owners
+            self._owners = Owners(survey, walked.messages)
+            beside.append(self._owners)
+        Reading(survey, *beside).read(self._report, self._progress)
         survey.check(status, self._valid)
         facts = Facts(status, survey.totals, survey.states, survey.missing or 0, survey.reach.coverage(),
-                      self._broken_blocks(survey), 0 if listed is None else listed.count(self._report, counters, begin),
+                      self._broken_blocks(survey), 0 if listed is None else listed.compare(),
                       survey.on_sha1, arguments.allow_sha1, begin is not None, stamps.sentences,
-                      strangers.count_strangers(self._log, survey.refused, survey.joined, survey.reach, self._progress),
+                      strangers.count_strangers(self._candidates, survey.refused, survey.joined, survey.reach),
                       arguments.ignore_strangers, survey.has_others, [shown_name(it) for it in trust.unbound_files(survey.joined)])
         finder = Finder(self._log, self._progress)
         return Reviewed(self._log, finder, self._read_notes(), survey, facts, is_whole, counters, begin)
 
     def _read_notes(self) -> Notes:
         """What was kept of the sessions, from the first."""
-        return Notes(self._notes, self._known.unsigned)
+        return Notes(self._workplace.path("notes"), self._known.unsigned)
 
-    def times(self, reviewed: Reviewed) -> Times:
+    def times(self) -> Times:
         """The times that the messages of the log state."""
-        from .times import Owners, Times
-        owners = Owners(reviewed.survey)
-        Reading(owners).read(self._report, self._progress)
-        return Times(self._log, owners, self._progress)
+        from .times import Times
+        assert self._owners is not None
+        return Times(self._log, self._owners, self._progress)
 
     def _broken_blocks(self, survey: Survey) -> Broken:
         """What holds the mark of a block and is none. In most logs there is nothing more to look for."""
         if self._candidates.walked.marked == survey.verified + survey.totals.refused + survey.totals.spoilt:
             return Broken()
-        return Search(self._log, survey.unlisted, self._progress).run(self._program, self._words, self._workplace)
+        search = Search(self._candidates, survey.unlisted, self._progress)
+        return search.run(self._program, self._words, self._workplace)
 
     def count(self) -> str:
         """Has ssign count how far each session went, which its blocks alone say. Gives the path of the counters file."""
@@ -384,41 +389,49 @@ class Verifier:
             self._progress.clear()
             notify(f"ssign-keys: the log has no session '{it.pattern}', for which --session-key gives a key")
 
-    def output(self, reviewed: Reviewed, arguments: argparse.Namespace, listed: Optional[Listed]) -> Iterator[bytes]:
-        """The pieces of what is to be printed, in the form that was asked for. All of it is made first."""
+    def show(self, reviewed: Reviewed, arguments: argparse.Namespace, listed: Optional[Listed]) -> Iterator[bytes]:
+        """Makes the page, and gives the pieces of what is to be printed. All is made first; the report is read once."""
+        pages = [] if arguments.html is None else [self._page(reviewed, listed)]
         if arguments.raw:
+            self._notify(reviewed.facts, arguments, listed)
+            pieces = without_listed(file_pieces(self._report)) if arguments.findings else file_pieces(self._report)
+            if pages:
+                Reading(*pages).read(self._report, self._progress)
+        else:
+            out = self._workplace.new_file("out")
             if listed is not None:
-                listed.notify()
-            if reviewed.facts.on_sha1 and not arguments.allow_sha1 and reviewed.facts.review_status == 0:
-                sha1.say_finding(reviewed.facts.on_sha1)
-            if not reviewed.facts.totals.listed:
-                notify(f"ssign-keys: {NOTHING}")
-            if reviewed.facts.is_ignoring:
-                notify(f"ssign-keys: {strangers.ignored_words(reviewed.facts.of_strangers)}")
-            for it in reviewed.facts.stamps:
-                notify(f"ssign-keys: {it}")
-            pieces = file_pieces(self._report)
-            return without_listed(pieces) if arguments.findings else pieces
-        out = self._workplace.new_file("out")
-        if listed is not None:
-            listed.put(out, arguments.json)
-        form = make_form(out, reviewed, arguments)
-        Reading(form).read(self._report, self._progress)
-        front = form.verdict()
-        finish(out)
-        return chain([front], file_pieces(out))
+                listed.put(out, arguments.json)
+            form = make_form(out, reviewed, arguments)
+            Reading(form, *pages).read(self._report, self._progress)
+            front = form.verdict()
+            finish(out)
+            pieces = chain([front], file_pieces(out))
+        for page in pages:
+            with self._workplace.new_file("page") as file:
+                page.write(file)
+                finish(file)
+        return pieces
 
-    def page(self, reviewed: Reviewed, listed: Optional[Listed]) -> str:
-        """Makes the page, and gives the path of its passing file."""
+    @staticmethod
+    def _notify(facts: Facts, arguments: argparse.Namespace, listed: Optional[Listed]) -> None:
+        """Says on standard error what standard output doesn't have, where that is the report alone."""
+        if listed is not None:
+            listed.notify()
+        if facts.on_sha1 and not arguments.allow_sha1 and facts.review_status == 0:
+            sha1.say_finding(facts.on_sha1)
+        if not facts.totals.listed:
+            notify(f"ssign-keys: {NOTHING}")
+        if facts.is_ignoring:
+            notify(f"ssign-keys: {strangers.ignored_words(facts.of_strangers)}")
+        for it in facts.stamps:
+            notify(f"ssign-keys: {it}")
+
+    def _page(self, reviewed: Reviewed, listed: Optional[Listed]) -> Page:
+        """A page, to which nothing was handed yet."""
         from .page import Page
         found = [] if listed is None else [(it.where, it.what) for it in listed.found]
-        # what was read beside the report once is read again
-        page = Page(reviewed._replace(notes=self._read_notes()), found)
-        Reading(page).read(self._report, self._progress)
-        with self._workplace.new_file("page") as file:
-            page.write(file)
-            finish(file)
-        return self._workplace.path("page")
+        # the form reads them at the same time
+        return Page(reviewed._replace(notes=self._read_notes()), found)
 
     def _reading(self, phase: str) -> Callable[[], None]:
         return lambda: self._progress.show(phase, self._log.position(), self._log.size, "octets")
@@ -432,7 +445,7 @@ def are_damaged_frames(log: Log, program: str, arguments: argparse.Namespace, wo
     try:
         return salvage(log, program, [SALVAGE, *log_words(arguments, False)], workplace, progress).blocks > 0
     except Refused:
-        # whoever reads it as lines is refused too, or has an older ssign
+        # whoever reads it as lines is refused too
         return False
 
 
@@ -493,25 +506,22 @@ def refuse_one_pipe(begin: Optional[List[str]], counters: Optional[List[str]], l
 
 
 def find_missing(program: str, arguments: argparse.Namespace, workplace: Workplace, progress: Progress) -> Missing:
-    """Refuses what can't be asked, before the log is read: by an older ssign, or up to a bad counters file."""
+    """Refuses a bad counters file before the log is read."""
     # a changed block is to be ignored only where no GBC is missing
     words = ["--whole"] if arguments.whole or arguments.ignore_strangers else []
     missing = Missing(words, None)
-    if words and not (arguments.begin or arguments.counters):
-        given = "--whole" if arguments.whole else "--ignore-strangers"
-        refuse_without(program, words, given, "which signature blocks are missing", workplace, progress)
     if arguments.begin:
         path = copy_begin(arguments.begin[0], workplace)
         words.append(f"--from={path}")
         # a refusal names the file that is read last
         arguments.read_counters = arguments.begin
-        refuse_without(program, words, "--from", "what is missing of one night", workplace, progress)
+        try_words(program, words, workplace, progress)
         missing = missing._replace(begin=read_counters(path), begin_digest=digest_of(arguments.begin[0], path))
     if arguments.counters:
         path = copy_counters(arguments.counters[0], workplace)
         words.append(f"--counters={path}")
         arguments.read_counters = arguments.counters
-        refuse_without(program, words, "--counters", "what is missing up to counters", workplace, progress)
+        try_words(program, words, workplace, progress)
         kept = read_counters(path)
         if kept.are_none():
             raise nothing_shown(arguments.counters[0])
@@ -519,7 +529,7 @@ def find_missing(program: str, arguments: argparse.Namespace, workplace: Workpla
     return missing
 
 
-def add_counters(missing: Missing, lines: List[bytes], program: str, workplace: Workplace, progress: Progress) -> Missing:
+def add_counters(missing: Missing, lines: List[bytes], workplace: Workplace) -> Missing:
     """Has the review use these lines too, which are those of a counters file."""
     if not lines:
         return missing
@@ -530,30 +540,18 @@ def add_counters(missing: Missing, lines: List[bytes], program: str, workplace: 
         put(file, file_of(b"".join(lines)))
         finish(file)
     words = [it for it in missing.words if not it.startswith("--counters=")] + [f"--counters={path}"]
-    if missing.counters is None:
-        refuse_without(program, words, "--counters", "what is missing up to the manifest's counters", workplace, progress)
     return missing._replace(words=words, counters=read_counters(path))
 
 
-def add_begin(missing: Missing, lines: bytes, program: str, workplace: Workplace, progress: Progress) -> Missing:
+def add_begin(missing: Missing, lines: bytes, workplace: Workplace) -> Missing:
     """Has the review begin at these counters, which are lines of a counters file; with none the first night begins."""
     with workplace.new_file("begin") as file:
         put(file, file_of(lines))
         finish(file)
     path = workplace.path("begin")
-    words = [*missing.words, f"--from={path}"]
-    refuse_without(program, words, "--from", "what is missing of one night", workplace, progress)
-    return missing._replace(words=words, begin=read_counters(path))
+    return missing._replace(words=[*missing.words, f"--from={path}"], begin=read_counters(path))
 
 
-def refuse_without(program: str, words: List[str], option: str, what: str, workplace: Workplace,
-                   progress: Progress) -> None:
-    """Refuses an ssign that doesn't know the last of these words, which the option of this name needs. An empty log shows it."""
-    try:
-        Run(program, ["review", *words], workplace, progress, subprocess.DEVNULL, subprocess.DEVNULL).end(lambda: None)
-    except Refused as refused:
-        if refused.code is not None or "UTF-8" in (refused.mistake or ""):
-            raise
-        unknown = words[-1].partition("=")[0]
-        raise Fault(f"the program {shown_name(program)} has no `review {unknown}`, so it can't say {what}: name a newer "
-                    f"one with --ssign, or leave {option} out") from refused
+def try_words(program: str, words: List[str], workplace: Workplace, progress: Progress) -> None:
+    """Has ssign read the files that these words name. An empty log needs no more."""
+    Run(program, ["review", *words], workplace, progress, subprocess.DEVNULL, subprocess.DEVNULL).end(lambda: None)

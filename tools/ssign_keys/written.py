@@ -4,6 +4,7 @@
 from __future__ import annotations
 
 import re
+from calendar import isleap
 from typing import NamedTuple, Optional, Tuple, Union
 
 from .blocks import Session
@@ -18,8 +19,11 @@ SIGNATURE = re.compile(HEADER + rb"\[ssign " + FRONT + rb' GBC="%s" FMN="%s" CNT
                        % (NUMBER, NUMBER))
 CERTIFICATE = re.compile(HEADER + rb"\[ssign-cert " + FRONT + rb' TPBL="([1-9][0-9]{0,7})" INDEX="([1-9][0-9]{0,7})" '
                          rb'FLEN="([1-9][0-9]{0,3})" FRAG="([A-Za-z0-9+/= :.-]+)"\]')
-STAMP = re.compile(rb"[0-9]{4}-([0-9]{2})-([0-9]{2})T([0-9]{2}):([0-9]{2}):([0-9]{2})(?:\.[0-9]{1,6})?"
-                   rb"(?:Z|[+-]([0-9]{2}):([0-9]{2}))")
+# a day of a month, or the last one of February in a leap year
+DAY = (rb"(?:[0-9]{4}-(?:(?:0[1-9]|1[0-2])-(?:0[1-9]|1[0-9]|2[0-8])|(?:0[13-9]|1[0-2])-(?:29|30)|(?:0[13578]|1[02])-31)"
+       rb"|([0-9]{4})-02-29)")
+TIME = rb"(?:[01][0-9]|2[0-3]):[0-5][0-9]"
+STAMP = re.compile(rb"-|" + DAY + rb"T" + TIME + rb":[0-5][0-9](?:\.[0-9]{1,6})?(?:Z|[+-]" + TIME + rb")")
 # strict base64 of 20 and of 32 octets: both have one `=`, and two bits before it that are zeros
 HASH = rb"[A-Za-z0-9+/]{%d}[AEIMQUYcgkosw048]="
 HASHES = {octets: re.compile(b"%s(?: %s)*" % (2 * (HASH % letters,))) for octets, letters in ((20, 26), (32, 42))}
@@ -90,19 +94,5 @@ def read_certificate(version: bytes, session: Session, fragment: bytes, total: i
 
 def is_stamp(stamp: bytes) -> bool:
     """Whether this is a TIMESTAMP (RFC 5424, section 6.2.3), or `-`."""
-    if stamp == b"-":
-        return True
     found = STAMP.fullmatch(stamp)
-    if found is None:
-        return False
-    month, day, hour, minute, second, offset_hour, offset_minute = (int(it or b"0") for it in found.groups())
-    if not 1 <= month <= 12 or hour > 23 or minute > 59 or second > 59 or offset_hour > 23 or offset_minute > 59:
-        return False
-    return 1 <= day <= days_in(int(stamp[:4]), month)
-
-
-def days_in(year: int, month: int) -> int:
-    """How many days a month has."""
-    if month == 2:
-        return 29 if year % 4 == 0 and (year % 100 != 0 or year % 400 == 0) else 28
-    return 30 if month in (4, 6, 9, 11) else 31
+    return found is not None and (found[1] is None or isleap(int(found[1])))
