@@ -8,7 +8,6 @@ from __future__ import annotations
 
 import base64
 import subprocess
-from itertools import chain
 from typing import Callable, Dict, FrozenSet, Iterable, Iterator, List, NamedTuple, Optional, Sequence, Set, Tuple
 
 from .answer import answers
@@ -98,18 +97,10 @@ class Search:
     # ---- sessions
 
     def _find_disputed(self) -> Set[Session]:
-        """The sessions whose certificate blocks contradict each other, by a review of these blocks alone.
-
-        One block and its copies contradict nothing, so there is no such review if no other block follows the first.
-        """
-        blocks = self._certificates()
-        first = next(blocks, None)
-        other = next((it for it in blocks if it != first), None)
-        if first is None or other is None:
-            return set()
+        """The sessions whose certificate blocks contradict each other, by a review of these blocks alone."""
         report = self._workplace.new_file("disputed")
         reviewing = Run(self._program, ["review", *self._words], self._workplace, self._progress, subprocess.PIPE, report)
-        reviewing.feed(chain([first, other], blocks))
+        reviewing.feed(self._certificates())
         try:
             reviewing.end(lambda: None)
         except Refused:
