@@ -159,7 +159,7 @@ class Page(Weighed):
         if self.totals.damaged == 1:
             log = self._reviewed.log
             for it in sorted(self._reviewed.survey.damage.longest(MOST_ROWS), key=lambda it: -it.length):
-                self._add("damaged", self._octet(it.offset), named(f"{grouped(it.length, 'octet')} {after_words(log, it)}"))
+                self._add("damaged", self._octet(it.offset), named(f"{grouped(it.length, 'octet')}, {after_words(log, it)}"))
         self._counts["damaged"] = self.totals.damaged
 
     def torn(self, offset: int) -> None:
