@@ -6,202 +6,54 @@ use std::process::Abort;
 use std::test::Fail;
 use test_devices::Pieces;
 
-/// A stream, and each answer with the octets that are then taken. The last is an end.
-#[derive(Clone, Copy)]
-struct Row {
-    name: &'static str,
-    bounds: Bounds,
-    stream: &'static [u8],
-    wants: &'static [(Want<'static>, u64)],
-}
+/// A name, bounds, a stream, and each answer with the octets that are then taken. The last is an end.
+type Row = (
+    &'static str,
+    Bounds,
+    &'static [u8],
+    &'static [(Want<'static>, u64)],
+);
 
+/// Ten lines of three octets at most.
+const SHORT_LINES: Bounds = (Form::Lines, 3, 10);
+
+#[rattlefmt::skip]
 const ROWS: [Row; 28] = [
-    Row {
-        name: "no frame",
-        bounds: FRAMES,
-        stream: b"",
-        wants: &[(Done, 0)],
-    },
-    Row {
-        name: "torn in a length",
-        bounds: FRAMES,
-        stream: b"12",
-        wants: &[(Torn(0), 2)],
-    },
-    Row {
-        name: "torn in a message",
-        bounds: FRAMES,
-        stream: b"3 ab",
-        wants: &[(Torn(0), 4)],
-    },
-    Row {
-        name: "torn in the second message",
-        bounds: FRAMES,
-        stream: b"3 abc3 ab",
-        wants: &[(Message(b"abc"), 5), (Torn(5), 9)],
-    },
-    Row {
-        name: "torn behind the largest length",
-        bounds: FRAMES,
-        stream: b"65536 ",
-        wants: &[(Torn(0), 6)],
-    },
-    Row {
-        name: "length 0",
-        bounds: FRAMES,
-        stream: b"0 ",
-        wants: &[(Fault(FrameFault::BadLength { pos: 0 }), 1)],
-    },
-    Row {
-        name: "leading 0",
-        bounds: FRAMES,
-        stream: b"03 abc",
-        wants: &[(Fault(FrameFault::BadLength { pos: 0 }), 1)],
-    },
-    Row {
-        name: "no digit",
-        bounds: FRAMES,
-        stream: b"x",
-        wants: &[(Fault(FrameFault::BadLength { pos: 0 }), 1)],
-    },
-    Row {
-        name: "no digit behind a digit",
-        bounds: FRAMES,
-        stream: b"3x",
-        wants: &[(Fault(FrameFault::BadLength { pos: 1 }), 2)],
-    },
-    Row {
-        name: "no digit behind a frame",
-        bounds: FRAMES,
-        stream: b"3 abcx",
-        wants: &[
-            (Message(b"abc"), 5),
-            (Fault(FrameFault::BadLength { pos: 5 }), 6),
-        ],
-    },
-    Row {
-        name: "length of twenty digits",
-        bounds: FRAMES,
-        stream: b"99999999999999999999",
-        wants: &[(Fault(FrameFault::TooLong { pos: 4 }), 5)],
-    },
-    Row {
-        name: "length past the limit",
-        bounds: FRAMES,
-        stream: b"65537 ",
-        wants: &[(Fault(FrameFault::TooLong { pos: 4 }), 5)],
-    },
-    Row {
-        name: "the last frame",
-        bounds: (Form::Frames, 3, 1),
-        stream: b"1 a",
-        wants: &[(Message(b"a"), 3), (Done, 3)],
-    },
-    Row {
-        name: "a frame behind the last one",
-        bounds: (Form::Frames, 3, 1),
-        stream: b"1 a1 b",
-        wants: &[
-            (Message(b"a"), 3),
-            (Fault(FrameFault::TooManyMessages { pos: 3 }), 4),
-        ],
-    },
-    Row {
-        name: "no line",
-        bounds: (Form::Lines, 3, 10),
-        stream: b"",
-        wants: &[(Done, 0)],
-    },
-    Row {
-        name: "a line",
-        bounds: (Form::Lines, 3, 10),
-        stream: b"abc\n",
-        wants: &[(Message(b"abc"), 4), (Done, 4)],
-    },
-    Row {
-        name: "CR and an octet past ASCII",
-        bounds: (Form::Lines, 3, 10),
-        stream: b"ab\r\n\xff\n",
-        wants: &[(Message(b"ab\r"), 4), (Message(b"\xff"), 6), (Done, 6)],
-    },
-    Row {
-        name: "no LF",
-        bounds: (Form::Lines, 3, 10),
-        stream: b"abc",
-        wants: &[(Torn(0), 3)],
-    },
-    Row {
-        name: "no LF behind the second line",
-        bounds: (Form::Lines, 3, 10),
-        stream: b"abc\nab",
-        wants: &[(Message(b"abc"), 4), (Torn(4), 6)],
-    },
-    Row {
-        name: "an empty line",
-        bounds: (Form::Lines, 3, 10),
-        stream: b"\n",
-        wants: &[(Fault(FrameFault::EmptyLine { pos: 0 }), 1)],
-    },
-    Row {
-        name: "an empty line behind a line",
-        bounds: (Form::Lines, 3, 10),
-        stream: b"a\n\nb\n",
-        wants: &[
-            (Message(b"a"), 2),
-            (Fault(FrameFault::EmptyLine { pos: 2 }), 3),
-        ],
-    },
-    Row {
-        name: "a line past the limit",
-        bounds: (Form::Lines, 3, 10),
-        stream: b"abcd\n",
-        wants: &[(Fault(FrameFault::TooLong { pos: 3 }), 4)],
-    },
-    Row {
-        name: "a line past the limit without LF",
-        bounds: (Form::Lines, 3, 10),
-        stream: b"abcd",
-        wants: &[(Fault(FrameFault::TooLong { pos: 3 }), 4)],
-    },
-    Row {
-        name: "CR past the limit",
-        bounds: (Form::Lines, 3, 10),
-        stream: b"abc\r\n",
-        wants: &[(Fault(FrameFault::TooLong { pos: 3 }), 4)],
-    },
-    Row {
-        name: "the second line past the limit",
-        bounds: (Form::Lines, 3, 10),
-        stream: b"abc\nabcd\n",
-        wants: &[
-            (Message(b"abc"), 4),
-            (Fault(FrameFault::TooLong { pos: 7 }), 8),
-        ],
-    },
-    Row {
-        name: "the last line",
-        bounds: (Form::Lines, 3, 1),
-        stream: b"a\n",
-        wants: &[(Message(b"a"), 2), (Done, 2)],
-    },
-    Row {
-        name: "LF behind the last line",
-        bounds: (Form::Lines, 3, 1),
-        stream: b"a\n\n",
-        wants: &[
-            (Message(b"a"), 2),
-            (Fault(FrameFault::TooManyMessages { pos: 2 }), 3),
-        ],
-    },
-    Row {
-        name: "an octet behind the last line",
-        bounds: (Form::Lines, 3, 1),
-        stream: b"a\nb",
-        wants: &[
-            (Message(b"a"), 2),
-            (Fault(FrameFault::TooManyMessages { pos: 2 }), 3),
-        ],
-    },
+    ("no frame", FRAMES, b"", &[(Done, 0)]),
+    ("torn in a length", FRAMES, b"12", &[(Torn(0), 2)]),
+    ("torn in a message", FRAMES, b"3 ab", &[(Torn(0), 4)]),
+    ("torn in the second message", FRAMES, b"3 abc3 ab", &[(Message(b"abc"), 5), (Torn(5), 9)]),
+    ("torn behind the largest length", FRAMES, b"65536 ", &[(Torn(0), 6)]),
+    ("length 0", FRAMES, b"0 ", &[(Fault(FrameFault::BadLength { pos: 0 }), 1)]),
+    ("leading 0", FRAMES, b"03 abc", &[(Fault(FrameFault::BadLength { pos: 0 }), 1)]),
+    ("no digit", FRAMES, b"x", &[(Fault(FrameFault::BadLength { pos: 0 }), 1)]),
+    ("no digit behind a digit", FRAMES, b"3x", &[(Fault(FrameFault::BadLength { pos: 1 }), 2)]),
+    ("no digit behind a frame", FRAMES, b"3 abcx",
+        &[(Message(b"abc"), 5), (Fault(FrameFault::BadLength { pos: 5 }), 6)]),
+    ("length of twenty digits", FRAMES, b"99999999999999999999", &[(Fault(FrameFault::TooLong { pos: 4 }), 5)]),
+    ("length past the limit", FRAMES, b"65537 ", &[(Fault(FrameFault::TooLong { pos: 4 }), 5)]),
+    ("the last frame", (Form::Frames, 3, 1), b"1 a", &[(Message(b"a"), 3), (Done, 3)]),
+    ("a frame behind the last one", (Form::Frames, 3, 1), b"1 a1 b",
+        &[(Message(b"a"), 3), (Fault(FrameFault::TooManyMessages { pos: 3 }), 4)]),
+    ("no line", SHORT_LINES, b"", &[(Done, 0)]),
+    ("a line", SHORT_LINES, b"abc\n", &[(Message(b"abc"), 4), (Done, 4)]),
+    ("CR and an octet past ASCII", SHORT_LINES, b"ab\r\n\xff\n",
+        &[(Message(b"ab\r"), 4), (Message(b"\xff"), 6), (Done, 6)]),
+    ("no LF", SHORT_LINES, b"abc", &[(Torn(0), 3)]),
+    ("no LF behind the second line", SHORT_LINES, b"abc\nab", &[(Message(b"abc"), 4), (Torn(4), 6)]),
+    ("an empty line", SHORT_LINES, b"\n", &[(Fault(FrameFault::EmptyLine { pos: 0 }), 1)]),
+    ("an empty line behind a line", SHORT_LINES, b"a\n\nb\n",
+        &[(Message(b"a"), 2), (Fault(FrameFault::EmptyLine { pos: 2 }), 3)]),
+    ("a line past the limit", SHORT_LINES, b"abcd\n", &[(Fault(FrameFault::TooLong { pos: 3 }), 4)]),
+    ("a line past the limit without LF", SHORT_LINES, b"abcd", &[(Fault(FrameFault::TooLong { pos: 3 }), 4)]),
+    ("CR past the limit", SHORT_LINES, b"abc\r\n", &[(Fault(FrameFault::TooLong { pos: 3 }), 4)]),
+    ("the second line past the limit", SHORT_LINES, b"abc\nabcd\n",
+        &[(Message(b"abc"), 4), (Fault(FrameFault::TooLong { pos: 7 }), 8)]),
+    ("the last line", (Form::Lines, 3, 1), b"a\n", &[(Message(b"a"), 2), (Done, 2)]),
+    ("LF behind the last line", (Form::Lines, 3, 1), b"a\n\n",
+        &[(Message(b"a"), 2), (Fault(FrameFault::TooManyMessages { pos: 2 }), 3)]),
+    ("an octet behind the last line", (Form::Lines, 3, 1), b"a\nb",
+        &[(Message(b"a"), 2), (Fault(FrameFault::TooManyMessages { pos: 2 }), 3)]),
 ];
 
 /// The answers to frames of one message without an end, five of which may be read.
@@ -217,10 +69,9 @@ const ENDLESS: [(Want<'static>, u64); 6] = [
 /// In pieces as large as they are asked for, and octet by octet.
 const MOST: [usize; 2] = [usize::MAX, 1];
 
-fn sees_row(rt: &(impl Abort + AllocGlobal), row: &Row, limits: Limits) {
+fn sees_row(rt: &(impl Abort + AllocGlobal), (name, _, stream, wants): Row, limits: Limits) {
     for most in MOST {
-        let pieces = Pieces::new(row.stream, most);
-        ask_all(rt, row.name, limits, pieces, row.wants);
+        ask_all(rt, name, limits, Pieces::new(stream, most), wants);
     }
 }
 
@@ -234,7 +85,7 @@ fn sees_endless(rt: &(impl Abort + AllocGlobal), limits: Limits) {
 #[test]
 fn streams(rt: HostRuntime) -> Result<(), Fail> {
     for row in &ROWS {
-        sees_row(&rt, row, limits_of(row.bounds).ok_or("no limits")?);
+        sees_row(&rt, *row, limits_of(row.1).ok_or("no limits")?);
     }
     sees_endless(&rt, Limits::new(3, 5).ok_or("no limits")?);
     Ok(())

@@ -22,152 +22,66 @@ fn filled(alloc: Global, front: &[u8], count: usize, back: &[u8]) -> Result<Vec<
     Ok(text)
 }
 
-const ACCEPTED: [&[u8]; 40] = [
-    b"<0>1 - - - - - -",
-    b"<9>1 - - - - - -",
-    b"<10>1 - - - - - -",
-    b"<99>1 - - - - - -",
-    b"<100>1 - - - - - -",
-    b"<191>1 - - - - - -",
-    b"<13>1 2024-02-29T00:00:00Z - - - - -",
-    b"<13>1 2023-12-31T23:59:59.999999+23:59 - - - - -",
-    b"<13>1 - ! - - - -",
-    b"<13>1 - ~ - - - -",
-    b"<13>1 - -- - - - -",
-    b"<13>1 - [ ] \" = -",
-    b"<13>1 - - - - - - ",
-    b"<13>1 - - - - - -  ",
-    b"<13>1 - - - - - - x",
-    b"<13>1 - - - - - - \xFF",
-    b"<13>1 - - - - - - \xEF\xBB",
-    b"<13>1 - - - - - - \xEF\xBB\xBF",
-    b"<13>1 - - - - - - \xEF\xBB\xBF\xC3\xA9",
-    b"<13>1 - - - - - - x\xEF\xBB\xBF\xFF",
-    b"<13>1 - - - - - [a]",
-    b"<13>1 - - - - - [a] ",
-    b"<13>1 - - - - - [a] - x",
-    b"<13>1 - - - - - [a][b]",
-    b"<13>1 - - - - - [a][A]",
-    b"<13>1 - - - - - [a][aa][aaa]",
-    b"<13>1 - - - - - [a b=\"\"]",
-    b"<13>1 - - - - - [a b=\"c\" b=\"c\"]",
-    b"<13>1 - - - - - [a a=\"a\"]",
-    b"<13>1 - - - - - [! ~=\"\"]",
-    b"<13>1 - - - - - [a[ b[=\"[\"]",
-    b"<13>1 - - - - - [a b=\"\\\"\"]",
-    b"<13>1 - - - - - [a b=\"\\]\"]",
-    b"<13>1 - - - - - [a b=\"\\\\\"]",
-    b"<13>1 - - - - - [a b=\"\\\\\\\"\"]",
-    b"<13>1 - - - - - [a b=\"\\x\"]",
-    b"<13>1 - - - - - [a b=\"x=y [z\"]",
-    b"<13>1 - - - - - [a b=\"\xC3\xA9\"]",
-    b"<13>1 - - - - - [a b=\"\xF4\x8F\xBF\xBF\"]",
-    b"<13>1 - - - - - [a b=\"\0\n\"]",
-];
+/// Texts without a fault, with `|` between two.
+const ACCEPTED: &[u8] =
+    b"<0>1 - - - - - -|<9>1 - - - - - -|<10>1 - - - - - -|<99>1 - - - - - -|<100>1 - - - - - -|\
+     <191>1 - - - - - -|<13>1 2024-02-29T00:00:00Z - - - - -|\
+     <13>1 2023-12-31T23:59:59.999999+23:59 - - - - -|<13>1 - ! - - - -|<13>1 - ~ - - - -|\
+     <13>1 - -- - - - -|<13>1 - [ ] \" = -|<13>1 - - - - - - |<13>1 - - - - - -  |\
+     <13>1 - - - - - - x|<13>1 - - - - - - \xFF|<13>1 - - - - - - \xEF\xBB|\
+     <13>1 - - - - - - \xEF\xBB\xBF|<13>1 - - - - - - \xEF\xBB\xBF\xC3\xA9|\
+     <13>1 - - - - - - x\xEF\xBB\xBF\xFF|<13>1 - - - - - [a]|<13>1 - - - - - [a] |\
+     <13>1 - - - - - [a] - x|<13>1 - - - - - [a][b]|<13>1 - - - - - [a][A]|\
+     <13>1 - - - - - [a][aa][aaa]|<13>1 - - - - - [a b=\"\"]|<13>1 - - - - - [a b=\"c\" b=\"c\"]|\
+     <13>1 - - - - - [a a=\"a\"]|<13>1 - - - - - [! ~=\"\"]|<13>1 - - - - - [a[ b[=\"[\"]|\
+     <13>1 - - - - - [a b=\"\\\"\"]|<13>1 - - - - - [a b=\"\\]\"]|<13>1 - - - - - [a b=\"\\\\\"]|\
+     <13>1 - - - - - [a b=\"\\\\\\\"\"]|<13>1 - - - - - [a b=\"\\x\"]|\
+     <13>1 - - - - - [a b=\"x=y [z\"]|<13>1 - - - - - [a b=\"\xC3\xA9\"]|\
+     <13>1 - - - - - [a b=\"\xF4\x8F\xBF\xBF\"]|<13>1 - - - - - [a b=\"\0\n\"]";
 
-const REFUSED: [(&[u8], Part, usize); 94] = [
-    (b"", Part::Pri, 0),
-    (b"<", Part::Pri, 0),
-    (b"<>1 - - - - - -", Part::Pri, 0),
-    (b"13>1 - - - - - -", Part::Pri, 0),
-    (b" <13>1 - - - - - -", Part::Pri, 0),
-    (b"<13", Part::Pri, 0),
-    (b"<192>1 - - - - - -", Part::Pri, 0),
-    (b"<200>1 - - - - - -", Part::Pri, 0),
-    (b"<999>1 - - - - - -", Part::Pri, 0),
-    (b"<1000>1 - - - - - -", Part::Pri, 0),
-    (b"<00>1 - - - - - -", Part::Pri, 0),
-    (b"<013>1 - - - - - -", Part::Pri, 0),
-    (b"<1x>1 - - - - - -", Part::Pri, 0),
-    (b"<-1>1 - - - - - -", Part::Pri, 0),
-    (b"<13>", Part::Version, 4),
-    (b"<13>1", Part::Version, 4),
-    (b"<13>2 - - - - - -", Part::Version, 4),
-    (b"<13>0 - - - - - -", Part::Version, 4),
-    (b"<13>11 - - - - - -", Part::Version, 4),
-    (b"<13> 1 - - - - - -", Part::Version, 4),
-    (b"<0>2 - - - - - -", Part::Version, 3),
-    (b"<191>2 - - - - - -", Part::Version, 5),
-    (b"<13>1 ", Part::Timestamp, 6),
-    (b"<13>1 -", Part::Timestamp, 6),
-    (b"<13>1  - - - - - -", Part::Timestamp, 6),
-    (b"<13>1 -- - - - - -", Part::Timestamp, 6),
-    (b"<13>1 2023-02-29T00:00:00Z - - - - -", Part::Timestamp, 6),
-    (b"<13>1 2024-02-29T00:00:00Z", Part::Timestamp, 6),
-    (b"<0>1 x - - - - -", Part::Timestamp, 5),
-    (b"<13>1 - ", Part::Hostname, 8),
-    (b"<13>1 - h", Part::Hostname, 8),
-    (b"<13>1 -  - - - -", Part::Hostname, 8),
-    (b"<13>1 - \x7F - - - -", Part::Hostname, 8),
-    (b"<13>1 - \x1F - - - -", Part::Hostname, 8),
-    (b"<13>1 - h\xC3\xA9 - - - -", Part::Hostname, 8),
-    (b"<13>1 2024-02-29T00:00:00Z \t - - - -", Part::Hostname, 27),
-    (b"<13>1 - - ", Part::AppName, 10),
-    (b"<13>1 - - a", Part::AppName, 10),
-    (b"<13>1 - -  - - -", Part::AppName, 10),
-    (b"<13>1 - - \x80 - - -", Part::AppName, 10),
-    (b"<13>1 - host a\x7F - - -", Part::AppName, 13),
-    (b"<13>1 - - - ", Part::ProcId, 12),
-    (b"<13>1 - - - p", Part::ProcId, 12),
-    (b"<13>1 - - -  - -", Part::ProcId, 12),
-    (b"<13>1 - - - \n - -", Part::ProcId, 12),
-    (b"<13>1 - - - - ", Part::MsgId, 14),
-    (b"<13>1 - - - - -", Part::MsgId, 14),
-    (b"<13>1 - - - -  -", Part::MsgId, 14),
-    (b"<13>1 - - - - \0 -", Part::MsgId, 14),
-    (b"<13>1 - - - - - ", Part::Syntax, 16),
-    (b"<13>1 - - - - - x", Part::Syntax, 16),
-    (b"<13>1 - - - - - ]", Part::Syntax, 16),
-    (b"<13>1 - - - - -  [a]", Part::Syntax, 16),
-    (b"<13>1 - - - - - -x", Part::Syntax, 17),
-    (b"<13>1 - - - - - -[a]", Part::Syntax, 17),
-    (b"<13>1 - - - - - --", Part::Syntax, 17),
-    (b"<13>1 - - - - - [a", Part::Syntax, 18),
-    (b"<13>1 - - - - - [a=", Part::Syntax, 18),
-    (b"<13>1 - - - - - [a\"", Part::Syntax, 18),
-    (b"<13>1 - - - - - [a\x7F]", Part::Syntax, 18),
-    (b"<13>1 - - - - - [a]x", Part::Syntax, 19),
-    (b"<13>1 - - - - - [a]]", Part::Syntax, 19),
-    (b"<13>1 - - - - - [a]-", Part::Syntax, 19),
-    (b"<13>1 - - - - - [a b", Part::Syntax, 20),
-    (b"<13>1 - - - - - [a b]", Part::Syntax, 20),
-    (b"<13>1 - - - - - [a b =\"\"]", Part::Syntax, 20),
-    (b"<13>1 - - - - - [a b=", Part::Syntax, 21),
-    (b"<13>1 - - - - - [a b=c]", Part::Syntax, 21),
-    (b"<13>1 - - - - - [a b=\"", Part::Syntax, 22),
-    (b"<13>1 - - - - - [a b=\"]\"]", Part::Syntax, 22),
-    (b"<13>1 - - - - - [a b=\"\\\\]\"]", Part::Syntax, 24),
-    (b"<13>1 - - - - - [a b=\"\\\"", Part::Syntax, 24),
-    (b"<13>1 - - - - - [a b=\"\xC3", Part::Syntax, 23),
-    (b"<13>1 - - - - - [a b=\"\xC3]\"]", Part::Syntax, 23),
-    (b"<13>1 - - - - - [a b=\"\"", Part::Syntax, 23),
-    (b"<13>1 - - - - - [a b=\"\"c=\"\"]", Part::Syntax, 23),
-    (b"<13>1 - - - - - [", Part::Name, 17),
-    (b"<13>1 - - - - - []", Part::Name, 17),
-    (b"<13>1 - - - - - [=", Part::Name, 17),
-    (b"<13>1 - - - - - [ a]", Part::Name, 17),
-    (b"<13>1 - - - - - [a ", Part::Name, 19),
-    (b"<13>1 - - - - - [a ]", Part::Name, 19),
-    (b"<13>1 - - - - - [a  b=\"\"]", Part::Name, 19),
-    (b"<13>1 - - - - - [a b=\"\" =]", Part::Name, 24),
-    (b"<13>1 - - - - - [a][", Part::Name, 20),
-    (b"<13>1 - - - - - [a b=\"\\", Part::Syntax, 23),
-    (b"<13>1 - - - - - [a b=\"\xC3\"]", Part::Value, 22),
-    (b"<13>1 - - - - - [a b=\"\xED\xA0\x80\" =]", Part::Value, 22),
-    (b"<13>1 - - - - - [a][a]", Part::RepeatedId, 20),
-    (b"<13>1 - - - - - [a][b][a", Part::RepeatedId, 23),
-    (
-        b"<13>1 - - - - - [aaaaaaaaaaaaaaaaaaaaaaaaaaaaaaaa][aaaaaaaaaaaaaaaaaaaaaaaaaaaaaaaa]",
-        Part::RepeatedId,
-        51,
-    ),
-    (
-        b"<13>1 - - - - - [aaaaaaaaaaaaaaaaaaaaaaaaaaaaaaaa][aaaaaaaaaaaaaaaaaaaaaaaaaaaaaaaaa]",
-        Part::Name,
-        51,
-    ),
-    (b"<13>1 - - - - - - \xEF\xBB\xBF\xFF", Part::Msg, 18),
-    (b"<13>1 - - - - - [a] \xEF\xBB\xBF\xFF", Part::Msg, 20),
+/// A part, a position, and the texts with that fault, with `|` between two.
+#[rattlefmt::skip]
+const REFUSED: [(Part, usize, &[u8]); 32] = [
+    (Part::Pri, 0,
+        b"|<|<>1 - - - - - -|13>1 - - - - - -| <13>1 - - - - - -|<13|<192>1 - - - - - -|<200>1 - - - - - -|\
+         <999>1 - - - - - -|<1000>1 - - - - - -|<00>1 - - - - - -|<013>1 - - - - - -|<1x>1 - - - - - -|\
+         <-1>1 - - - - - -"),
+    (Part::Version, 4, b"<13>|<13>1|<13>2 - - - - - -|<13>0 - - - - - -|<13>11 - - - - - -|<13> 1 - - - - - -"),
+    (Part::Version, 3, b"<0>2 - - - - - -"),
+    (Part::Version, 5, b"<191>2 - - - - - -"),
+    (Part::Timestamp, 6,
+        b"<13>1 |<13>1 -|<13>1  - - - - - -|<13>1 -- - - - - -|<13>1 2023-02-29T00:00:00Z - - - - -|\
+         <13>1 2024-02-29T00:00:00Z"),
+    (Part::Timestamp, 5, b"<0>1 x - - - - -"),
+    (Part::Hostname, 8,
+        b"<13>1 - |<13>1 - h|<13>1 -  - - - -|<13>1 - \x7F - - - -|<13>1 - \x1F - - - -|<13>1 - h\xC3\xA9 - - - -"),
+    (Part::Hostname, 27, b"<13>1 2024-02-29T00:00:00Z \t - - - -"),
+    (Part::AppName, 10, b"<13>1 - - |<13>1 - - a|<13>1 - -  - - -|<13>1 - - \x80 - - -"),
+    (Part::AppName, 13, b"<13>1 - host a\x7F - - -"),
+    (Part::ProcId, 12, b"<13>1 - - - |<13>1 - - - p|<13>1 - - -  - -|<13>1 - - - \n - -"),
+    (Part::MsgId, 14, b"<13>1 - - - - |<13>1 - - - - -|<13>1 - - - -  -|<13>1 - - - - \0 -"),
+    (Part::Syntax, 16, b"<13>1 - - - - - |<13>1 - - - - - x|<13>1 - - - - - ]|<13>1 - - - - -  [a]"),
+    (Part::Syntax, 17, b"<13>1 - - - - - -x|<13>1 - - - - - -[a]|<13>1 - - - - - --"),
+    (Part::Syntax, 18, b"<13>1 - - - - - [a|<13>1 - - - - - [a=|<13>1 - - - - - [a\"|<13>1 - - - - - [a\x7F]"),
+    (Part::Syntax, 19, b"<13>1 - - - - - [a]x|<13>1 - - - - - [a]]|<13>1 - - - - - [a]-"),
+    (Part::Syntax, 20, b"<13>1 - - - - - [a b|<13>1 - - - - - [a b]|<13>1 - - - - - [a b =\"\"]"),
+    (Part::Syntax, 21, b"<13>1 - - - - - [a b=|<13>1 - - - - - [a b=c]"),
+    (Part::Syntax, 22, b"<13>1 - - - - - [a b=\"|<13>1 - - - - - [a b=\"]\"]"),
+    (Part::Syntax, 24, b"<13>1 - - - - - [a b=\"\\\\]\"]|<13>1 - - - - - [a b=\"\\\""),
+    (Part::Syntax, 23,
+        b"<13>1 - - - - - [a b=\"\xC3|<13>1 - - - - - [a b=\"\xC3]\"]|<13>1 - - - - - [a b=\"\"|\
+         <13>1 - - - - - [a b=\"\"c=\"\"]|<13>1 - - - - - [a b=\"\\"),
+    (Part::Name, 17, b"<13>1 - - - - - [|<13>1 - - - - - []|<13>1 - - - - - [=|<13>1 - - - - - [ a]"),
+    (Part::Name, 19, b"<13>1 - - - - - [a |<13>1 - - - - - [a ]|<13>1 - - - - - [a  b=\"\"]"),
+    (Part::Name, 24, b"<13>1 - - - - - [a b=\"\" =]"),
+    (Part::Name, 20, b"<13>1 - - - - - [a]["),
+    (Part::Value, 22, b"<13>1 - - - - - [a b=\"\xC3\"]|<13>1 - - - - - [a b=\"\xED\xA0\x80\" =]"),
+    (Part::RepeatedId, 20, b"<13>1 - - - - - [a][a]"),
+    (Part::RepeatedId, 23, b"<13>1 - - - - - [a][b][a"),
+    (Part::RepeatedId, 51, b"<13>1 - - - - - [aaaaaaaaaaaaaaaaaaaaaaaaaaaaaaaa][aaaaaaaaaaaaaaaaaaaaaaaaaaaaaaaa]"),
+    (Part::Name, 51, b"<13>1 - - - - - [aaaaaaaaaaaaaaaaaaaaaaaaaaaaaaaa][aaaaaaaaaaaaaaaaaaaaaaaaaaaaaaaaa]"),
+    (Part::Msg, 18, b"<13>1 - - - - - - \xEF\xBB\xBF\xFF"),
+    (Part::Msg, 20, b"<13>1 - - - - - [a] \xEF\xBB\xBF\xFF"),
 ];
 
 /// A run of octets, the most that it may have, and the fault past that.
@@ -244,13 +158,18 @@ fn sees_limit(rt: &(impl Abort + AllocGlobal), row: &Limit) -> Result<(), AllocE
     Ok(())
 }
 
+/// Each of the texts has that fault, or none.
+fn sees_texts(rt: &(impl Abort + AllocGlobal), texts: &[u8], fault: Option<Fault>) {
+    for text in texts.split(|octet| *octet == b'|') {
+        assert_eq!(rt; fault_of(rt.alloc(), text), fault, "in {text:?}");
+    }
+}
+
 #[test]
 fn faults(rt: HostRuntime) -> Result<(), Fail> {
-    for text in &ACCEPTED {
-        assert_eq!(rt; fault_of(rt.alloc(), text), None, "in {text:?}");
-    }
-    for (text, part, pos) in &REFUSED {
-        assert_eq!(rt; fault_of(rt.alloc(), text), bad(*part, *pos), "in {text:?}");
+    sees_texts(&rt, ACCEPTED, None);
+    for (part, pos, texts) in &REFUSED {
+        sees_texts(&rt, texts, bad(*part, *pos));
     }
     for row in &LIMITS {
         sees_limit(&rt, row)?;
