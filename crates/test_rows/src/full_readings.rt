@@ -3,7 +3,7 @@
 use ss_block::{PlacedReading, Reading, Session, meaning, read_fully, read_placed};
 use ss_message::{Field, Part};
 use ss_octets::{Bytes, NoMemory};
-use std::process::Abort;
+use std::alloc::Global;
 
 const CERTIFICATE: &[u8] =
     b"<110>1 - h s - - [ssign-cert VER=\"0111\" RSID=\"1\" SG=\"0\" SPRI=\"0\" TPBL=\"27\" INDEX=\"1\" FLEN=\"27\" \
@@ -35,56 +35,49 @@ fn is_session(session: &Session, procid: Option<&[u8]>, rsid: u64) -> bool {
         && session.rsid == rsid
 }
 
-fn sees_session(rt: &impl Abort, session: &Option<Session>, procid: Option<&[u8]>, rsid: u64) {
-    match session {
-        Some(session) => assert!(rt; is_session(session, procid, rsid), "{session:?}"),
-        None => panic!(rt; "no session"),
-    }
+/// Whether what is signed is the text up to one octet, and from another.
+fn is_signed(signed: &Bytes, text: &[u8], until: usize, from: usize) -> bool {
+    let octets = signed.as_slice();
+    octets.get(..until) == text.get(..until) && octets.get(until..) == text.get(from..)
 }
 
-/// What is signed is the text up to one octet, and from another.
-fn sees_signed(rt: &impl Abort, signed: &Option<Bytes>, text: &[u8], until: usize, from: usize) {
-    let Some(signed) = signed else {
-        panic!(rt; "nothing is signed");
-    };
-    assert_eq!(rt; signed.as_slice().get(..until), text.get(..until));
-    assert_eq!(rt; signed.as_slice().get(until..), text.get(from..));
-}
-
-/// The text is a certificate block, or else a signature block.
-fn sees_kind(rt: &impl Abort, reading: &Reading, certificate: bool) {
+/// Whether the text is a certificate block, or else a signature block.
+fn is_kind(reading: &Reading, certificate: bool) -> bool {
     match reading {
-        Reading::Certificate(_) => assert!(rt; certificate),
-        Reading::Signature(_) => assert!(rt; !certificate),
-        _ => panic!(rt; "no block"),
+        Reading::Certificate(_) => certificate,
+        Reading::Signature(_) => !certificate,
+        _ => false,
     }
 }
 
-/// The session that is spelled at its places in what is signed.
-fn session_of_placed(
-    rt: &(impl Abort + AllocGlobal),
-    told: &PlacedReading,
-) -> Result<Option<Session>, NoMemory> {
+/// The session that is spelled at its places in what is signed; none where one of them lies outside.
+fn session_of_placed(alloc: Global, told: &PlacedReading) -> Result<Option<Session>, NoMemory> {
     let (Some(signed), Some(sender)) = (&told.signed, told.sender) else {
-        assert!(rt; told.signed.is_none() && told.sender.is_none(), "{told:?}");
         return Ok(None);
     };
     let octets = signed.as_slice();
-    assert!(rt; sender.host.start <= sender.host.end && sender.host.end <= octets.len());
-    assert!(rt; sender.app.start <= sender.app.end && sender.app.end <= octets.len());
-    assert!(rt; sender.procid.start <= sender.procid.end && sender.procid.end <= octets.len());
-    Ok(Some(sender.session(rt.alloc(), octets)?))
+    if sender.host.start > sender.host.end || sender.host.end > octets.len() {
+        return Ok(None);
+    }
+    if sender.app.start > sender.app.end || sender.app.end > octets.len() {
+        return Ok(None);
+    }
+    if sender.procid.start > sender.procid.end || sender.procid.end > octets.len() {
+        return Ok(None);
+    }
+    Ok(Some(sender.session(alloc, octets)?))
 }
 
-/// The octets of HB or FRAG, as they stand in what is signed, after the session. RSID is that of the block.
-fn sees_content(rt: &impl Abort, told: &PlacedReading, content: &[u8], rsid: u64) {
+/// Whether HB or FRAG has these octets, as they stand in what is signed, after the session, and RSID is that of the
+/// block.
+fn has_content(told: &PlacedReading, content: &[u8], rsid: u64) -> bool {
     let (Some(signed), Some(span), Some(sender)) = (&told.signed, told.content, told.sender) else {
-        panic!(rt; "no content");
+        return false;
     };
-    assert_eq!(rt; signed.as_slice().get(span.start..span.end), Some(content));
     let ends = [sender.host.end, sender.app.end, sender.procid.end];
-    assert!(rt; ends.into_iter().all(|end| end <= span.start), "{told:?}");
-    assert_eq!(rt; sender.rsid, rsid);
+    signed.as_slice().get(span.start..span.end) == Some(content)
+        && ends.into_iter().all(|end| end <= span.start)
+        && sender.rsid == rsid
 }
 
 /// A text, whether it is a certificate block, the end of its session, what is signed of it, and the value of HB or FRAG.
@@ -117,22 +110,33 @@ const ROWS: [Row; 3] = [
 /// What a text is found to be, its session, and what is signed of it.
 type Told<'a> = (&'a Reading, &'a Option<Session>, &'a Option<Bytes>);
 
-fn sees_told(rt: &impl Abort, told: Told<'_>, row: &Row) {
+fn is_told(told: Told<'_>, row: &Row) -> bool {
     let (reading, session, signed) = told;
     let (text, certificate, (procid, rsid), (until, from), _) = *row;
-    sees_kind(rt, reading, certificate);
-    sees_session(rt, session, procid, rsid);
-    sees_signed(rt, signed, text, until, from);
+    match (session, signed) {
+        (Some(session), Some(signed)) => {
+            is_kind(reading, certificate)
+                && is_session(session, procid, rsid)
+                && is_signed(signed, text, until, from)
+        }
+        _ => false,
+    }
 }
 
-fn sees_block(rt: &(impl Abort + AllocGlobal), row: &Row) -> Result<(), NoMemory> {
-    let full = read_fully(rt.alloc(), row.0)?;
-    sees_told(rt, (&full.reading, &full.session, &full.signed), row);
-    let placed = read_placed(rt.alloc(), row.0)?;
-    let session = session_of_placed(rt, &placed)?;
-    sees_told(rt, (&placed.reading, &session, &placed.signed), row);
-    sees_content(rt, &placed, row.4, row.2.1);
-    Ok(())
+/// Whether a full reading finds what the row has.
+fn is_read_fully(alloc: Global, row: &Row) -> Result<bool, NoMemory> {
+    let full = read_fully(alloc, row.0)?;
+    Ok(is_told((&full.reading, &full.session, &full.signed), row))
+}
+
+/// Whether a reading of places does.
+fn is_read_placed(alloc: Global, row: &Row) -> Result<bool, NoMemory> {
+    let placed = read_placed(alloc, row.0)?;
+    let session = session_of_placed(alloc, &placed)?;
+    Ok(
+        is_told((&placed.reading, &session, &placed.signed), row)
+            && has_content(&placed, row.4, row.2.1),
+    )
 }
 
 /// What a text is that is no block: the part at fault, or none.
@@ -152,36 +156,54 @@ fn is_no_block(told: Told<'_>, fault: Option<(Part, usize)>) -> bool {
         && signed.is_none()
 }
 
-fn sees_no_block(
-    rt: &(impl Abort + AllocGlobal),
+/// Whether a full reading reports so of a text.
+fn is_no_block_read(
+    alloc: Global,
     text: &[u8],
     fault: Option<(Part, usize)>,
-) -> Result<(), NoMemory> {
-    let full = read_fully(rt.alloc(), text)?;
-    let told = (&full.reading, &full.session, &full.signed);
-    assert!(rt; is_no_block(told, fault), "{text:?}");
-    let placed = read_placed(rt.alloc(), text)?;
-    let session = session_of_placed(rt, &placed)?;
-    let told = (&placed.reading, &session, &placed.signed);
-    assert!(rt; is_no_block(told, fault), "{text:?}");
-    assert!(rt; placed.content.is_none(), "{text:?}");
-    Ok(())
+) -> Result<bool, NoMemory> {
+    let full = read_fully(alloc, text)?;
+    Ok(is_no_block((&full.reading, &full.session, &full.signed), fault))
 }
+
+/// Whether a reading of places does.
+fn is_no_block_placed(
+    alloc: Global,
+    text: &[u8],
+    fault: Option<(Part, usize)>,
+) -> Result<bool, NoMemory> {
+    let placed = read_placed(alloc, text)?;
+    let session = None;
+    let told = (&placed.reading, &session, &placed.signed);
+    Ok(is_no_block(told, fault) && placed.sender.is_none() && placed.content.is_none())
+}
+
+/// Texts that are no block, and the part at fault.
+const OTHERS: [(&[u8], Option<(Part, usize)>); 2] = [
+    (b"<13>1 - - - - - -", None),
+    (b"abc", Some((Part::Pri, 0))),
+];
 
 #[test]
 fn read_once(rt: HostRuntime) -> Result<(), NoMemory> {
     for row in &ROWS {
-        sees_block(&rt, row)?;
+        assert!(rt; is_read_fully(rt.alloc(), row)?, "{:?}", row.0);
+        assert!(rt; is_read_placed(rt.alloc(), row)?, "{:?}", row.0);
     }
-    sees_no_block(&rt, b"<13>1 - - - - - -", None)?;
-    sees_no_block(&rt, b"abc", Some((Part::Pri, 0)))
+    for (text, fault) in &OTHERS {
+        assert!(rt; is_no_block_read(rt.alloc(), text, *fault)?, "{text:?}");
+        assert!(rt; is_no_block_placed(rt.alloc(), text, *fault)?, "{text:?}");
+    }
+    Ok(())
+}
+
+fn is_meaning(alloc: Global, content: &[u8], octets: &[u8]) -> Result<bool, NoMemory> {
+    Ok(meaning(alloc, content)?.as_slice() == octets)
 }
 
 #[test]
 fn read_from_content(rt: HostRuntime) -> Result<(), NoMemory> {
-    let fragment = meaning(rt.alloc(), ROWS[2].4)?;
-    assert_eq!(rt; fragment.as_slice(), b"\"]\\\\n".as_slice());
-    let plain = meaning(rt.alloc(), ROWS[0].4)?;
-    assert_eq!(rt; plain.as_slice(), ROWS[0].4);
+    assert!(rt; is_meaning(rt.alloc(), ROWS[2].4, b"\"]\\\\n")?);
+    assert!(rt; is_meaning(rt.alloc(), ROWS[0].4, ROWS[0].4)?);
     Ok(())
 }

@@ -1,7 +1,7 @@
 //! Each cause of a spoilt block beside each other, and parameters that are put wrong.
 use crate::blocks::elements::{Block, Edit, HEAD, Kind, Named, kind_of, put, sees_kind};
 use ss_block::Spoil;
-use std::alloc::AllocError;
+use std::alloc::{AllocError, Global};
 use std::process::Abort;
 use std::test::Fail;
 
@@ -136,19 +136,27 @@ fn put_wrong(
     Ok(text.push(b']')?)
 }
 
+/// What the message of the block is with the parameters put wrong.
+fn kind_wrong(
+    alloc: Global,
+    block: Block,
+    wrong: Wrong,
+    at: usize,
+) -> Result<Option<Kind>, AllocError> {
+    let mut text = Vec::from_slice(alloc, HEAD)?;
+    put_wrong(&mut text, block.id(), block.parameters(), wrong, at)?;
+    Ok(kind_of(alloc, &text))
+}
+
 fn sees_wrong(
     rt: &(impl Abort + AllocGlobal),
     block: Block,
     wrong: Wrong,
     at: usize,
 ) -> Result<(), AllocError> {
-    let mut text = Vec::from_slice(rt.alloc(), HEAD)?;
-    put_wrong(&mut text, block.id(), block.parameters(), wrong, at)?;
-    assert_eq!(rt;
-        kind_of(rt.alloc(), &text),
-        Some(Kind::Spoilt(Spoil::Names)),
-        "for {block:?}, {wrong:?} at {at}"
-    );
+    let kind = kind_wrong(rt.alloc(), block, wrong, at)?;
+    let names = Some(Kind::Spoilt(Spoil::Names));
+    assert_eq!(rt; kind, names, "for {block:?}, {wrong:?} at {at}");
     Ok(())
 }
 

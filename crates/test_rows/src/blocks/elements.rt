@@ -143,6 +143,12 @@ impl Block {
     }
 }
 
+/// What the message of the block is, edited so.
+fn kind_with(alloc: Global, block: Block, edits: &[Edit]) -> Result<Option<Kind>, AllocError> {
+    let text = block.with(alloc, edits)?;
+    Ok(kind_of(alloc, &text))
+}
+
 /// The message of the block, edited so, is of that kind.
 pub(crate) fn sees_kind(
     rt: &(impl Abort + AllocGlobal),
@@ -150,7 +156,7 @@ pub(crate) fn sees_kind(
     edits: &[Edit],
     kind: Kind,
 ) -> Result<(), AllocError> {
-    let text = block.with(rt.alloc(), edits)?;
-    assert_eq!(rt; kind_of(rt.alloc(), &text), Some(kind), "for {edits:?}");
+    let seen = kind_with(rt.alloc(), block, edits)?;
+    assert_eq!(rt; seen, Some(kind), "for {edits:?}");
     Ok(())
 }

@@ -4,7 +4,6 @@ use ss_block::Joined::{Agreed, Disagrees};
 use ss_block::{JoinState, Joined, Joiner};
 use ss_octets::NoMemory;
 use std::alloc::Global;
-use std::process::Abort;
 use std::test::Fail;
 
 /// A fragment by TPBL, INDEX and FRAG.
@@ -243,22 +242,25 @@ fn agrees(
     }
 }
 
-/// At both ends of the longest payload.
-fn sees_both_ends(rt: &(impl Abort + AllocGlobal), fragment: &[u8]) -> Result<(), NoMemory> {
-    let mut joiner = Joiner::new(rt.alloc());
+/// Whether it agrees at both ends of the longest payload.
+fn agrees_at_both_ends(alloc: Global, fragment: &[u8]) -> Result<bool, NoMemory> {
+    let mut joiner = Joiner::new(alloc);
     for index in [1, 99_990_001, 5_000, 99_980_002] {
         let at = (99_999_999, index);
-        assert!(rt; agrees(&mut joiner, at, fragment, JoinState::Incomplete)?);
+        if !agrees(&mut joiner, at, fragment, JoinState::Incomplete)? {
+            return Ok(false);
+        }
     }
-    Ok(())
+    Ok(true)
 }
 
-/// As a payload of its own.
-fn sees_whole(rt: &(impl Abort + AllocGlobal), fragment: &[u8]) -> Result<(), NoMemory> {
-    let mut joiner = Joiner::new(rt.alloc());
-    assert!(rt; agrees(&mut joiner, (9_999, 1), fragment, JoinState::Whole)?);
-    assert!(rt; is_payload(&joiner, fragment)?);
-    Ok(())
+/// Whether it is a payload of its own.
+fn is_whole(alloc: Global, fragment: &[u8]) -> Result<bool, NoMemory> {
+    let mut joiner = Joiner::new(alloc);
+    Ok(
+        agrees(&mut joiner, (9_999, 1), fragment, JoinState::Whole)?
+            && is_payload(&joiner, fragment)?,
+    )
 }
 
 fn is_payload(joiner: &Joiner, text: &[u8]) -> Result<bool, NoMemory> {
@@ -282,12 +284,17 @@ fn joiners(alloc: Global) -> Result<Option<Vec<Joiner>>, NoMemory> {
     Ok(Some(joiners))
 }
 
-fn sees_many(rt: &(impl Abort + AllocGlobal)) -> Result<(), Fail> {
-    let joiners = joiners(rt.alloc())?.ok_or("a joiner disagrees")?;
+/// Whether each of the joiners agrees, and is then incomplete.
+fn are_many_incomplete(alloc: Global) -> Result<bool, NoMemory> {
+    let Some(joiners) = joiners(alloc)? else {
+        return Ok(false);
+    };
     for joiner in &joiners {
-        assert!(rt; is_then(joiner, Incomplete)?);
+        if !is_then(joiner, Incomplete)? {
+            return Ok(false);
+        }
     }
-    Ok(())
+    Ok(true)
 }
 
 /// The longest fragment, at both ends of the longest payload and as a payload of its own, and a total that reserves
@@ -295,14 +302,15 @@ fn sees_many(rt: &(impl Abort + AllocGlobal)) -> Result<(), Fail> {
 #[test]
 fn longest(rt: HostRuntime) -> Result<(), Fail> {
     let fragment = [b'x'; 9_999];
-    sees_both_ends(&rt, &fragment)?;
-    sees_whole(&rt, &fragment)?;
-    sees_many(&rt)?;
+    assert!(rt; agrees_at_both_ends(rt.alloc(), &fragment)?);
+    assert!(rt; is_whole(rt.alloc(), &fragment)?);
+    assert!(rt; are_many_incomplete(rt.alloc())?);
     Ok(())
 }
 
-fn sees_odd(rt: &(impl Abort + AllocGlobal)) -> Result<(), NoMemory> {
-    let mut joiner = Joiner::new(rt.alloc());
+/// The first index at which an octet disagrees, or 0 where the payload isn't incomplete then.
+fn wrong_odd(alloc: Global) -> Result<Option<u32>, NoMemory> {
+    let mut joiner = Joiner::new(alloc);
     for i in 0..20_000 {
         let index = if i < 10_000 {
             2 * i + 1
@@ -310,36 +318,45 @@ fn sees_odd(rt: &(impl Abort + AllocGlobal)) -> Result<(), NoMemory> {
             39_999 - 2 * i
         };
         let at = (99_999_999, index);
-        assert!(rt;
-            agrees(&mut joiner, at, b"x", JoinState::Incomplete)?,
-            "{index}"
-        );
+        if !agrees(&mut joiner, at, b"x", JoinState::Incomplete)? {
+            return Ok(Some(index));
+        }
     }
-    assert!(rt; is_then(&joiner, Incomplete)?);
-    Ok(())
+    Ok(if is_then(&joiner, Incomplete)? {
+        None
+    } else {
+        Some(0)
+    })
 }
 
-fn sees_falling(rt: &(impl Abort + AllocGlobal)) -> Result<(), NoMemory> {
-    let mut joiner = Joiner::new(rt.alloc());
+/// The first index whose octet disagrees or leaves another state, or 0 where the payload isn't whole then.
+fn wrong_falling(alloc: Global) -> Result<Option<u32>, NoMemory> {
+    let mut joiner = Joiner::new(alloc);
     for i in 0..10_000 {
-        assert_eq!(rt; joiner.state(), JoinState::Incomplete);
         let state = if i < 9_999 {
             JoinState::Incomplete
         } else {
             JoinState::Whole
         };
-        let at = (10_000, 10_000 - i);
-        assert!(rt; agrees(&mut joiner, at, b"x", state)?, "{i}");
+        let before = joiner.state();
+        if before != JoinState::Incomplete
+            || !agrees(&mut joiner, (10_000, 10_000 - i), b"x", state)?
+        {
+            return Ok(Some(10_000 - i));
+        }
     }
-    assert!(rt; is_payload(&joiner, &[b'x'; 10_000])?);
-    Ok(())
+    Ok(if is_payload(&joiner, &[b'x'; 10_000])? {
+        None
+    } else {
+        Some(0)
+    })
 }
 
 /// One octet at each odd index, rising and then falling again: each is a run of its own for whoever keeps runs. And one
 /// at each index, falling: whole with the last that comes, and not before.
 #[test]
 fn ten_thousand_octets(rt: HostRuntime) -> Result<(), Fail> {
-    sees_odd(&rt)?;
-    sees_falling(&rt)?;
+    assert_eq!(rt; wrong_odd(rt.alloc())?, None);
+    assert_eq!(rt; wrong_falling(rt.alloc())?, None);
     Ok(())
 }

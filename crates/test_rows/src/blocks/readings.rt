@@ -94,10 +94,14 @@ const ESCAPED: [(&[u8], &[u8]); 6] = [
     (b"\xC3\xA9[", b"\xC3\xA9["),
 ];
 
-fn sees_row(rt: &(impl Abort + AllocGlobal), row: &Row) -> Result<(), AllocError> {
-    let text = row.block.with(rt.alloc(), row.edits)?;
-    assert!(rt; is_block(rt.alloc(), &text, &row.fields), "{}", row.name);
-    Ok(())
+fn is_read(alloc: Global, row: &Row) -> Result<bool, AllocError> {
+    let text = row.block.with(alloc, row.edits)?;
+    Ok(is_block(alloc, &text, &row.fields))
+}
+
+/// How many octets the message of a block has.
+fn length(alloc: Global, block: Block) -> Result<usize, AllocError> {
+    Ok(block.with(alloc, &[])?.len())
 }
 
 /// The certificate block whose fragment is written so, with a FLEN.
@@ -110,40 +114,35 @@ fn with_fragment(
     Block::Certificate.with(alloc, &edits)
 }
 
-/// The octets of a fragment, of which there are three, are counted without its escapes.
-fn sees_fragment(
-    rt: &(impl Abort + AllocGlobal),
+/// Whether the octets of a fragment, of which there are three, are counted without its escapes.
+fn is_fragment(
+    alloc: Global,
     raw: &'static [u8],
     octets: &'static [u8],
-) -> Result<(), AllocError> {
+) -> Result<bool, AllocError> {
     let mut fields = WHOLE;
     fields.fragment = octets;
-    let fields = Fields::Certificate(fields);
-    let text = with_fragment(rt.alloc(), b"3", raw)?;
-    assert!(rt; is_block(rt.alloc(), &text, &fields), "for {raw:?}");
-    Ok(())
+    let text = with_fragment(alloc, b"3", raw)?;
+    Ok(is_block(alloc, &text, &Fields::Certificate(fields)))
 }
 
-fn sees_fragment_refused(
-    rt: &(impl Abort + AllocGlobal),
-    raw: &'static [u8],
-) -> Result<(), AllocError> {
-    let text = with_fragment(rt.alloc(), b"4", raw)?;
-    let kind = Some(Kind::Spoilt(Spoil::Fragment));
-    assert_eq!(rt; kind_of(rt.alloc(), &text), kind, "for {raw:?}");
-    Ok(())
+/// What the block is where four are announced.
+fn kind_of_longer(alloc: Global, raw: &'static [u8]) -> Result<Option<Kind>, AllocError> {
+    let text = with_fragment(alloc, b"4", raw)?;
+    Ok(kind_of(alloc, &text))
 }
 
 #[test]
 fn blocks(rt: HostRuntime) -> Result<(), Fail> {
     for row in &ROWS {
-        sees_row(&rt, row)?;
+        assert!(rt; is_read(rt.alloc(), row)?, "{}", row.name);
     }
-    assert_eq!(rt; Block::Signature.with(rt.alloc(), &[])?.len(), 159);
-    assert_eq!(rt; Block::Certificate.with(rt.alloc(), &[])?.len(), 142);
+    assert_eq!(rt; length(rt.alloc(), Block::Signature)?, 159);
+    assert_eq!(rt; length(rt.alloc(), Block::Certificate)?, 142);
+    let refused = Some(Kind::Spoilt(Spoil::Fragment));
     for (raw, octets) in &ESCAPED {
-        sees_fragment(&rt, raw, octets)?;
-        sees_fragment_refused(&rt, raw)?;
+        assert!(rt; is_fragment(rt.alloc(), raw, octets)?, "for {raw:?}");
+        assert_eq!(rt; kind_of_longer(rt.alloc(), raw)?, refused, "for {raw:?}");
     }
     Ok(())
 }
@@ -234,6 +233,12 @@ fn put_together(alloc: Global, pieces: &[Piece]) -> Result<Vec<u8>, AllocError> 
     Ok(text)
 }
 
+/// What the parts are together, and how many octets they have.
+fn kind_together(alloc: Global, pieces: &[Piece]) -> Result<(Option<Kind>, usize), AllocError> {
+    let text = put_together(alloc, pieces)?;
+    Ok((kind_of(alloc, &text), text.len()))
+}
+
 /// The parts together are of that kind. The one signature block has 177 octets.
 fn sees_put_together(
     rt: &(impl Abort + AllocGlobal),
@@ -241,9 +246,9 @@ fn sees_put_together(
     pieces: &[Piece],
     kind: Kind,
 ) -> Result<(), AllocError> {
-    let text = put_together(rt.alloc(), pieces)?;
-    assert_eq!(rt; kind_of(rt.alloc(), &text), Some(kind), "{name}");
-    assert!(rt; kind != Kind::Signature || text.len() == 177, "{name}");
+    let (seen, length) = kind_together(rt.alloc(), pieces)?;
+    assert_eq!(rt; seen, Some(kind), "{name}");
+    assert!(rt; kind != Kind::Signature || length == 177, "{name}");
     Ok(())
 }
 

@@ -5,7 +5,6 @@ use ss_message::{
 };
 use ss_octets::Bytes;
 use std::alloc::{AllocError, Global};
-use std::process::Abort;
 use std::test::Fail;
 
 fn bytes(alloc: Global, octets: &[u8]) -> Result<Bytes, AllocError> {
@@ -44,17 +43,17 @@ fn element(
     })
 }
 
-/// Sees that the draft is written so.
-fn sees(rt: &(impl Abort + AllocGlobal), draft: &Draft, want: &[u8]) -> Result<(), DraftFault> {
-    let text = write_message(rt.alloc(), draft)?;
-    assert_eq!(rt; text.as_slice(), want);
-    Ok(())
+/// Whether the draft is written so.
+fn is_written(alloc: Global, draft: &Draft, want: &[u8]) -> Result<bool, DraftFault> {
+    Ok(write_message(alloc, draft)?.as_slice() == want)
 }
 
-/// Sees that this part of the draft is refused.
-fn sees_refused(rt: &(impl Abort + AllocGlobal), draft: &Draft, part: Part) {
-    let fault = write_message(rt.alloc(), draft).err();
-    assert_eq!(rt; fault, Some(DraftFault::Bad { part }));
+/// The fault of a draft, or none.
+fn fault_of(alloc: Global, draft: &Draft) -> Option<DraftFault> {
+    match write_message(alloc, draft) {
+        Ok(_) => None,
+        Err(fault) => Some(fault),
+    }
 }
 
 /// An element with a parameter whose value is escaped, and one with none.
@@ -80,18 +79,18 @@ pub(crate) fn full(alloc: Global) -> Result<Draft, AllocError> {
     Ok(draft)
 }
 
-fn sees_empty(rt: &(impl Abort + AllocGlobal)) -> Result<(), DraftFault> {
-    sees(rt, &empty(rt.alloc()), b"<13>1 - - - - - -")
+fn is_empty_written(alloc: Global) -> Result<bool, DraftFault> {
+    is_written(alloc, &empty(alloc), b"<13>1 - - - - - -")
 }
 
-fn sees_full(rt: &(impl Abort + AllocGlobal)) -> Result<(), DraftFault> {
-    sees(rt, &full(rt.alloc())?, FULL)
+fn is_full_written(alloc: Global) -> Result<bool, DraftFault> {
+    is_written(alloc, &full(alloc)?, FULL)
 }
 
 #[test]
 fn written(rt: HostRuntime) -> Result<(), Fail> {
-    sees_empty(&rt)?;
-    sees_full(&rt)?;
+    assert!(rt; is_empty_written(rt.alloc())?);
+    assert!(rt; is_full_written(rt.alloc())?);
     Ok(())
 }
 
@@ -140,19 +139,17 @@ const BODIES: [([&[u8]; 5], Part); 8] = [
     ([b"a", b"b", b"c", b"d", b"\xEF\xBB\xBF\xFF"], Part::Msg),
 ];
 
-fn set_fields(draft: &mut Draft, alloc: Global, texts: &[&[u8]; 4]) -> Result<(), AllocError> {
-    draft.hostname = field(alloc, texts[0])?;
-    draft.app_name = field(alloc, texts[1])?;
-    draft.procid = field(alloc, texts[2])?;
-    draft.msgid = field(alloc, texts[3])?;
-    Ok(())
-}
-
 fn header(alloc: Global, pri: u8, texts: &[&[u8]; 4]) -> Result<Draft, AllocError> {
-    let mut draft = empty(alloc);
-    draft.pri = pri;
-    set_fields(&mut draft, alloc, texts)?;
-    Ok(draft)
+    Ok(Draft {
+        pri,
+        stamp: None,
+        hostname: field(alloc, texts[0])?,
+        app_name: field(alloc, texts[1])?,
+        procid: field(alloc, texts[2])?,
+        msgid: field(alloc, texts[3])?,
+        elements: DraftElements::from_vec(Vec::new(alloc)),
+        msg: None,
+    })
 }
 
 fn put_elements(
@@ -173,43 +170,42 @@ fn body(alloc: Global, texts: &[&[u8]; 5]) -> Result<Draft, AllocError> {
     Ok(draft)
 }
 
-fn sees_header_refused(
-    rt: &(impl Abort + AllocGlobal),
+fn header_fault(
+    alloc: Global,
     pri: u8,
     texts: &[&[u8]; 4],
-    part: Part,
-) -> Result<(), AllocError> {
-    let draft = header(rt.alloc(), pri, texts)?;
-    sees_refused(rt, &draft, part);
-    Ok(())
+) -> Result<Option<DraftFault>, AllocError> {
+    Ok(fault_of(alloc, &header(alloc, pri, texts)?))
 }
 
-fn sees_body_refused(
-    rt: &(impl Abort + AllocGlobal),
-    texts: &[&[u8]; 5],
-    part: Part,
-) -> Result<(), AllocError> {
-    let draft = body(rt.alloc(), texts)?;
-    sees_refused(rt, &draft, part);
-    Ok(())
+fn body_fault(alloc: Global, texts: &[&[u8]; 5]) -> Result<Option<DraftFault>, AllocError> {
+    Ok(fault_of(alloc, &body(alloc, texts)?))
 }
 
-/// A text without an octet is no text.
-fn sees_no_text(rt: &(impl Abort + AllocGlobal)) -> Result<(), AllocError> {
-    let mut draft = empty(rt.alloc());
-    draft.hostname = Field::Text(bytes(rt.alloc(), b"")?);
-    sees_refused(rt, &draft, Part::Hostname);
-    Ok(())
+/// The fault of a text without an octet, which is no text.
+fn no_text_fault(alloc: Global) -> Result<Option<DraftFault>, AllocError> {
+    let mut draft = empty(alloc);
+    draft.hostname = Field::Text(bytes(alloc, b"")?);
+    Ok(fault_of(alloc, &draft))
+}
+
+/// This part is refused.
+fn bad(part: Part) -> Option<DraftFault> {
+    Some(DraftFault::Bad { part })
 }
 
 #[test]
 fn not_written(rt: HostRuntime) -> Result<(), Fail> {
     for (pri, texts, part) in &HEADERS {
-        sees_header_refused(&rt, *pri, texts, *part)?;
+        assert_eq!(rt;
+            header_fault(rt.alloc(), *pri, texts)?,
+            bad(*part),
+            "{texts:?}"
+        );
     }
     for (texts, part) in &BODIES {
-        sees_body_refused(&rt, texts, *part)?;
+        assert_eq!(rt; body_fault(rt.alloc(), texts)?, bad(*part), "{texts:?}");
     }
-    sees_no_text(&rt)?;
+    assert_eq!(rt; no_text_fault(rt.alloc())?, bad(Part::Hostname));
     Ok(())
 }

@@ -1,8 +1,7 @@
 //! The examples of RFC 5424, section 6.5, and the values of parameters.
 use ss_message::{Element, Message, Parameter, Span, Stamp, escape, parse, value, write_stamp};
-use ss_octets::{Bytes, NoMemory};
+use ss_octets::NoMemory;
 use std::alloc::Global;
-use std::process::Abort;
 use std::test::Fail;
 
 const FIRST: &[u8] =
@@ -90,56 +89,55 @@ const EXAMPLES: [Example; 5] = [
     },
 ];
 
-fn read<'a>(alloc: Global, text: &'a [u8]) -> Result<Message<'a>, &'static str> {
-    parse(alloc, text).ok().ok_or("the text is a message")
-}
-
-/// The text of a stamp; `-` for none.
-fn stamp_text(alloc: Global, stamp: &Option<Stamp>) -> Result<Bytes, NoMemory> {
+/// Whether the stamp has that text; `-` for none.
+fn is_stamp(alloc: Global, stamp: &Option<Stamp>, text: &[u8]) -> Result<bool, NoMemory> {
     match stamp {
-        Some(stamp) => write_stamp(alloc, stamp),
-        None => Ok(Bytes::from_vec(Vec::from_slice(alloc, b"-")?)),
+        Some(stamp) => Ok(write_stamp(alloc, stamp)?.as_slice() == text),
+        None => Ok(text == b"-".as_slice()),
     }
 }
 
-fn sees_stamp(
-    rt: &(impl Abort + AllocGlobal),
-    row: &Example,
-    stamp: &Option<Stamp>,
-) -> Result<(), NoMemory> {
-    let text = stamp_text(rt.alloc(), stamp)?;
-    assert_eq!(rt; text.as_slice(), row.stamp, "{}", row.name);
-    Ok(())
-}
-
-/// PRI, the four fields of the header, and MSG are those.
-fn sees_fields(rt: &impl Abort, row: &Example, m: &Message<'_>) {
+/// Whether PRI, the four fields of the header, and MSG are those.
+fn has_fields(row: &Example, m: &Message<'_>) -> bool {
     let spans = [m.hostname, m.app_name, m.procid, m.msgid];
     for (span, field) in spans.iter().zip(&row.fields) {
-        assert_eq!(rt; text_of(row.text, *span), Some(*field), "{}", row.name);
+        if text_of(row.text, *span) != Some(*field) {
+            return false;
+        }
     }
     let msg = match m.msg {
         Some(span) => text_of(row.text, span),
         None => None,
     };
-    assert_eq!(rt; (m.pri, msg), (row.pri, row.msg), "{}", row.name);
+    (m.pri, msg) == (row.pri, row.msg)
 }
 
-/// The SD-IDs are those, in that order.
-fn sees_ids(rt: &impl Abort, row: &Example, elements: &[Element]) {
-    assert_eq!(rt; elements.len(), row.ids.len(), "{}", row.name);
+/// Whether the SD-IDs are those, in that order.
+fn has_ids(row: &Example, elements: &[Element]) -> bool {
     for (element, id) in elements.iter().zip(row.ids) {
-        assert_eq!(rt; text_of(row.text, element.id), Some(*id), "{}", row.name);
+        if text_of(row.text, element.id) != Some(*id) {
+            return false;
+        }
+    }
+    elements.len() == row.ids.len()
+}
+
+/// Whether the text of the row is read as the row has it.
+fn is_read(alloc: Global, row: &Example) -> Result<bool, NoMemory> {
+    match parse(alloc, row.text) {
+        Ok(m) => Ok(
+            is_stamp(alloc, &m.stamp, row.stamp)?
+                && has_fields(row, &m)
+                && has_ids(row, m.elements.as_slice()),
+        ),
+        Err(_) => Ok(false),
     }
 }
 
 #[test]
 fn examples(rt: HostRuntime) -> Result<(), Fail> {
     for row in &EXAMPLES {
-        let m = read(rt.alloc(), row.text)?;
-        sees_stamp(&rt, row, &m.stamp)?;
-        sees_fields(&rt, row, &m);
-        sees_ids(&rt, row, m.elements.as_slice());
+        assert!(rt; is_read(rt.alloc(), row)?, "{}", row.name);
     }
     Ok(())
 }
@@ -152,61 +150,89 @@ const PLACES: [(&[u8], Option<usize>); 4] = [
     (b"example", None),
 ];
 
-/// The parameters are three, and the last of them is that one.
-fn sees_parameters(rt: &impl Abort, parameters: &[Parameter]) -> Result<(), Fail> {
-    let last = parameters.last().ok_or("a parameter")?;
-    assert_eq!(rt; parameters.len(), 3);
-    assert_eq!(rt; text_of(FOURTH, last.name), Some(b"eventID".as_slice()));
-    assert_eq!(rt; text_of(FOURTH, last.value), Some(b"1011".as_slice()));
-    Ok(())
-}
-
-#[test]
-fn elements(rt: HostRuntime) -> Result<(), Fail> {
-    let m = read(rt.alloc(), FOURTH)?;
-    for (id, place) in &PLACES {
-        assert_eq!(rt; m.element(id), *place, "{id:?}");
+/// Whether the parameters are three, and the last of them is that one.
+fn has_parameters(parameters: &[Parameter]) -> bool {
+    match parameters.last() {
+        Some(last) => {
+            parameters.len() == 3
+                && text_of(FOURTH, last.name) == Some(b"eventID".as_slice())
+                && text_of(FOURTH, last.value) == Some(b"1011".as_slice())
+        }
+        None => false,
     }
-    let first = m.elements.as_slice().first().ok_or("an element")?;
-    sees_parameters(&rt, first.parameters.as_slice())?;
-    Ok(())
 }
 
-/// What a message has: its length, its elements by name, and its host.
-fn sees_names(rt: &impl Abort, m: &Message<'_>) {
-    let places = (m.element(b"ssign"), m.element(b"z"));
-    assert_eq!(rt; (m.source.len(), places), (177, (Some(1), None)));
+/// Whether the elements of the fourth example stand in these places, and the first has these parameters.
+fn has_elements(m: &Message<'_>) -> bool {
+    for (id, place) in &PLACES {
+        if m.element(id) != *place {
+            return false;
+        }
+    }
+    match m.elements.as_slice().first() {
+        Some(first) => has_parameters(first.parameters.as_slice()),
+        None => false,
+    }
+}
+
+/// Whether a message has its length, its elements by name, and its host.
+fn has_names(m: &Message<'_>) -> bool {
     let host = m.hostname;
-    assert!(rt; host.start <= host.end && host.end <= m.source.len());
-    assert_eq!(rt; m.part(host), b"h".as_slice());
+    if host.start > host.end || host.end > m.source.len() || m.part(host) != b"h".as_slice() {
+        return false;
+    }
+    m.source.len() == 177 && m.element(b"ssign") == Some(1) && m.element(b"z").is_none()
 }
 
-/// A parameter lies between its SP and its closing quote.
-fn sees_edges(rt: &impl Abort, source: &[u8], sign: &Parameter) {
-    assert_eq!(rt; text_of(source, sign.name), Some(b"SIGN".as_slice()));
+/// Whether a parameter lies between its SP and its closing quote.
+fn has_edges(source: &[u8], sign: &Parameter) -> bool {
     let before = sign.name.start.saturating_sub(1);
     let behind = sign.value.end.saturating_add(1);
-    assert_eq!(rt; (before, behind), (134, 146));
-    let whole = b" SIGN=\"AAAA\"".as_slice();
-    let rest = b"][y@1 a=\"\\]\"] hello SIGN=\"AAAA\"".as_slice();
-    let parts = (source.get(before..behind), source.get(behind..));
-    assert_eq!(rt; parts, (Some(whole), Some(rest)));
+    text_of(source, sign.name) == Some(b"SIGN".as_slice())
+        && (before, behind) == (134, 146)
+        && source.get(before..behind) == Some(b" SIGN=\"AAAA\"".as_slice())
+        && source.get(behind..) == Some(b"][y@1 a=\"\\]\"] hello SIGN=\"AAAA\"".as_slice())
 }
 
-fn sees_value(rt: &impl Abort, m: &Message<'_>, value: Span) {
-    assert!(rt; value.start <= value.end && value.end <= m.source.len());
-    assert_eq!(rt; m.part(value), b"AAAA".as_slice());
+fn has_value(m: &Message<'_>, value: Span) -> bool {
+    value.start <= value.end && value.end <= m.source.len() && m.part(value) == b"AAAA".as_slice()
+}
+
+/// Whether the second element ends in that parameter, in its place.
+fn has_sign(m: &Message<'_>) -> bool {
+    let Some(element) = m.elements.as_slice().get(1) else {
+        return false;
+    };
+    match element.parameters.as_slice().last() {
+        Some(sign) => has_edges(m.source, sign) && has_value(m, sign.value),
+        None => false,
+    }
+}
+
+/// Whether the fourth example has its elements.
+fn is_fourth(alloc: Global) -> bool {
+    match parse(alloc, FOURTH) {
+        Ok(m) => has_elements(&m),
+        Err(_) => false,
+    }
 }
 
 #[test]
-fn places(rt: HostRuntime) -> Result<(), Fail> {
-    let m = read(rt.alloc(), BLOCK)?;
-    sees_names(&rt, &m);
-    let element = m.elements.as_slice().get(1).ok_or("an element")?;
-    let sign = element.parameters.as_slice().last().ok_or("a parameter")?;
-    sees_edges(&rt, m.source, sign);
-    sees_value(&rt, &m, sign.value);
-    Ok(())
+fn elements(rt: HostRuntime) {
+    assert!(rt; is_fourth(rt.alloc()));
+}
+
+/// Whether the text with a block has its parts in their places.
+fn is_block(alloc: Global) -> bool {
+    match parse(alloc, BLOCK) {
+        Ok(m) => has_names(&m) && has_sign(&m),
+        Err(_) => false,
+    }
+}
+
+#[test]
+fn places(rt: HostRuntime) {
+    assert!(rt; is_block(rt.alloc()));
 }
 
 /// A value as it stands, and what it stands for.
@@ -226,13 +252,21 @@ const RAW: [(&[u8], &[u8]); 10] = [
 /// A text, and how it is escaped.
 const ESCAPED: [(&[u8], &[u8]); 2] = [(b"]\"\\\\x", b"\\]\\\"\\\\\\\\x"), (b"a [=", b"a [=")];
 
+fn is_value(alloc: Global, raw: &[u8], want: &[u8]) -> Result<bool, NoMemory> {
+    Ok(value(alloc, raw)?.as_slice() == want)
+}
+
+fn is_escaped(alloc: Global, text: &[u8], want: &[u8]) -> Result<bool, NoMemory> {
+    Ok(escape(alloc, text)?.as_slice() == want)
+}
+
 #[test]
 fn values(rt: HostRuntime) -> Result<(), Fail> {
     for (raw, want) in &RAW {
-        assert_eq!(rt; value(rt.alloc(), raw)?.as_slice(), *want, "of {raw:?}");
+        assert!(rt; is_value(rt.alloc(), raw, want)?, "of {raw:?}");
     }
     for (text, want) in &ESCAPED {
-        assert_eq!(rt; escape(rt.alloc(), text)?.as_slice(), *want, "of {text:?}");
+        assert!(rt; is_escaped(rt.alloc(), text, want)?, "of {text:?}");
     }
     Ok(())
 }
