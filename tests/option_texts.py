@@ -15,7 +15,7 @@ import sys
 ROOT = os.path.dirname(os.path.dirname(os.path.abspath(__file__)))
 sys.path.insert(0, os.path.join(ROOT, "tools"))
 
-from ssign_keys.wraps import is_stamp
+from ssign_keys.written import is_stamp
 
 RIGHT = ["-", "2026-01-15T09:15:07Z", "0000-02-29T00:00:00Z", "1900-02-28T23:59:59.5+23:59", "2000-02-29T12:00:00.123456-00:00",
          "9999-12-31T23:59:59.000001-23:59"]
@@ -52,7 +52,7 @@ def main():
     with concurrent.futures.ThreadPoolExecutor(min(4, os.cpu_count() or 1)) as pool:
         for text, is_refused in zip(cases, pool.map(lambda it: refuses(program, it), cases)):
             refused += is_refused is True
-            is_right = is_refused is not None and is_refused != is_stamp(text)
+            is_right = is_refused is not None and is_refused != is_stamp(text.encode("utf-8"))
             passed, failed = passed + is_right, failed + (not is_right)
             if not is_right:
                 print("option_texts: %r: FAILED\n    ssign refuses it: %s" % (text, is_refused))
