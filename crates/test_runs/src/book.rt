@@ -10,7 +10,7 @@ use ss_report::{
     Extraction, Notation, Payloads, Run, RunFault, Selection, Verdict, run_extract, run_questions,
     run_review,
 };
-use ss_review::{Judge, Verifier};
+use ss_review::{Counter, Judge, Verifier};
 use std::alloc::{AllocError, Global};
 use std::io::{Read, Write};
 
@@ -82,8 +82,12 @@ pub enum Job {
     Carry,
 }
 
-/// These messages, as frames.
-fn frames_of(selection: Selection) -> Extraction {
+/// The messages that a run extracts, as frames.
+fn frames_of(job: Job) -> Extraction {
+    let selection = match job {
+        Job::Carry => Selection::Carried,
+        _ => Selection::Listed,
+    };
     Extraction {
         selection,
         form: Form::Frames,
@@ -100,28 +104,38 @@ pub(crate) fn run_by<R: Read, W: Write>(
     requires reader { has_failed run.reader.now ≡ false }
     requires writer { has_failed run.writer.now ≡ false }
 {
+    let Run {
+        reader,
+        writer,
+        options,
+        known,
+        alloc,
+    } = run;
     let trust = |payload: &[u8]| book.trusts(payload);
     let check = |payload: &[u8], octets: &[u8], sign: &[u8]| book.accepts(payload, octets, sign);
     let verifier = Verifier::new(book, trust, check);
     match job {
-        Job::Review => {
-            let Run {
+        Job::Review => run_review(alloc, reader, writer, &verifier, options.limits),
+        Job::Questions | Job::QuestionsJson | Job::QuestionsOnce | Job::QuestionsOnceJson => {
+            let run = Run {
                 reader,
                 writer,
                 options,
+                known,
                 alloc,
-                ..
-            } = run;
-            run_review(alloc, reader, writer, &verifier, options.limits)
+            };
+            run_questions(run, notation_of(job), payloads_of(job))
         }
-        Job::Questions | Job::QuestionsJson => {
-            run_questions(run, notation_of(job), Payloads::InEach)
+        Job::Extract | Job::Carry => {
+            let run = Run {
+                reader,
+                writer,
+                options,
+                known,
+                alloc,
+            };
+            run_extract(run, verifier, frames_of(job))
         }
-        Job::QuestionsOnce | Job::QuestionsOnceJson => {
-            run_questions(run, notation_of(job), Payloads::Once)
-        }
-        Job::Extract => run_extract(run, verifier, frames_of(Selection::Listed)),
-        Job::Carry => run_extract(run, verifier, frames_of(Selection::Carried)),
     }
 }
 
@@ -131,6 +145,19 @@ fn notation_of(job: Job) -> Notation {
         Job::QuestionsJson | Job::QuestionsOnceJson => Notation::Json,
         _ => Notation::Plain,
     }
+}
+
+/// Where the payloads stand in the questions of a run.
+fn payloads_of(job: Job) -> Payloads {
+    match job {
+        Job::QuestionsOnce | Job::QuestionsOnceJson => Payloads::Once,
+        _ => Payloads::InEach,
+    }
+}
+
+/// No counter.
+pub(crate) fn no_counters<'c>() -> &'c [Counter] {
+    &[]
 }
 
 /// Says yes to everything.

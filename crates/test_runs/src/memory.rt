@@ -1,7 +1,7 @@
 //! Calls of a reviewer, of a questioner and of the runs with counters, of which `tests/memory.sh` refuses each
 //! allocation in turn: a call answers "out of memory" then and changes nothing. Made again, it gives its answer.
 use crate::asking::{Asked, ROWS, Row, is_asked, is_signed};
-use crate::book::{PAYLOAD, SIGN, Yes};
+use crate::book::{PAYLOAD, SIGN, Yes, no_counters};
 use crate::inspections::LOG;
 use crate::rows::REPORT;
 use crate::run::Done;
@@ -277,7 +277,7 @@ fn make(alloc: Global, kind: Kind) -> Result<Done, AllocError> {
             run_review_as(run, Yes, form, each, Beside::Night { first, second })
         }
         Kind::Older => {
-            let first = &[];
+            let first = no_counters();
             let second = Some(before.as_slice());
             run_review_as(run, Yes, form, each, Beside::Night { first, second })
         }

@@ -1,12 +1,12 @@
 //! Logs with damaged octets, by hand, and what each run writes of them when reading goes on.
-use crate::book::Yes;
+use crate::book::{Yes, no_counters};
 use ss_frame::{Form, FrameFault, Limits, Watched};
 use ss_report::{
     Beside, Detail, Extraction, InspectionForm, Notation, Payloads, ReadOptions, ReportForm, Run,
     RunFault, Selection, Verdict, run_counters, run_extract, run_inspect, run_questions,
     run_review_as,
 };
-use ss_review::Places;
+use ss_review::{Counter, Places};
 use std::alloc::{AllocError, Global};
 use std::process::Abort;
 use std::test::Fail;
@@ -139,6 +139,11 @@ fn as_it_stands(lines: ReportForm) -> InspectionForm {
     }
 }
 
+/// The night between these counters.
+fn night<'c>(first: &'c [Counter], second: Option<&'c [Counter]>) -> Beside<'c> {
+    Beside::Night { first, second }
+}
+
 /// Makes a run over a log octet by octet, and hands back what was written.
 fn make(
     alloc: Global,
@@ -159,19 +164,13 @@ fn make(
     let each = Detail::Itemized;
     let said = match job {
         Job::Review(form, detail) => run_review_as(run, Yes, form, detail, Beside::Nothing),
-        Job::Whole => run_review_as(run, Yes, text, each, Beside::Missing { up_to: None }),
+        Job::Whole => {
+            let up_to = None;
+            run_review_as(run, Yes, text, each, Beside::Missing { up_to })
+        }
         Job::Night => {
-            let first = &[];
-            run_review_as(
-                run,
-                Yes,
-                text,
-                each,
-                Beside::Night {
-                    first,
-                    second: None,
-                },
-            )
+            let beside = night(no_counters(), None);
+            run_review_as(run, Yes, text, each, beside)
         }
         Job::Questions => run_questions(run, Notation::Plain, Payloads::InEach),
         Job::Selected => run_extract(run, Yes, extraction(Selection::Unlisted)),
