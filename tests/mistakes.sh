@@ -1,6 +1,6 @@
 #!/usr/bin/env bash
-# What `ssign-keys` says of mistakes: one line with the file, the place, and what `ssign explain` prints or the option that
-# helps, on a terminal and without one. Whether a log is lines is told by its first octet, and whether a wrap has a
+# What `ssign-keys` prints for mistakes: a line with the file, the place, and what `ssign explain` prints or the option that
+# helps, on a terminal and without one. The form of a log is found by its first octet, and whether a wrap has a
 # TIMESTAMP as ssign does. See mistakes.py, option_texts.py and log_forms.py.
 # shellcheck source=tests/lib.sh
 . "$(dirname -- "$0")/lib.sh"
