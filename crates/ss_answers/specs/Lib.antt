@@ -10,4 +10,4 @@ pub mod CounterLine
 pub mod CounterFile
 pub mod CounterInput
 pub mod Start
-pub mod FaultText
+pub mod FaultCode

@@ -1,15 +1,12 @@
 //! Why answers weren't read.
-ghost use Rattle.std.specs.Prelude.{Some};
 ghost use Rattle.ss_octets.specs.Code.{IsCode};
-ghost use Rattle.ss_answers.specs.FaultText.{answer_fault_code, answer_fault_text};
+ghost use Rattle.ss_answers.specs.FaultCode.{answer_fault_code};
 
 use crate::input::InputFault;
 use ss_octets::Code;
-use std::fmt;
-use thiserror::Error;
 
 /// Why a file of answers wasn't read.
-#[derive(Clone, Copy, Debug, Drop, PartialEq, Eq, Error)]
+#[derive(Clone, Copy, Debug, Drop, PartialEq, Eq)]
 pub enum AnswerFault {
     /// A1: a line that isn't an answer, an empty one too.
     BadLine {
@@ -36,19 +33,6 @@ impl AnswerFault {
             AnswerFault::Memory => ("A4", None),
         };
         Code { name, place }
-    }
-}
-
-impl fmt::Display for AnswerFault {
-    ghost output = { λ fault. Some (answer_fault_text fault) };
-
-    fn fmt<W: fmt::Write>(&self, f: &mut fmt::Formatter<W>) -> fmt::Result {
-        match self {
-            AnswerFault::BadLine { line } => write!(f, "a line isn't an answer, at line {line}"),
-            AnswerFault::Read => f.write_str("the answers file couldn't be opened or read"),
-            AnswerFault::TooBig => f.write_str("the answers file has more octets than allowed"),
-            AnswerFault::Memory => f.write_str("out of memory"),
-        }
     }
 }
 

@@ -33,4 +33,4 @@ pub mod OneBlockLaws
 pub mod NoBlockLaws
 pub mod AheadLaws
 pub mod CountedLaws
-pub mod FaultText
+pub mod FaultCode

@@ -1,17 +1,15 @@
 //! Why an originator isn't made, or refuses a call.
-ghost use Rattle.std.specs.Prelude.{◌≡◌, Some};
+ghost use Rattle.std.specs.Prelude.{◌≡◌};
 ghost use Rattle.ss_octets.specs.Code.{IsCode};
-ghost use Rattle.ss_origin.specs.FaultText.{origin_fault_code, origin_fault_text};
+ghost use Rattle.ss_origin.specs.FaultCode.{origin_fault_code};
 ghost use Rattle.ss_origin.specs.declared.fault.OriginFault.TheVariants.{Memory};
 
 use ss_octets::{Code, NoMemory};
 use std::alloc::{AllocError, AllocFailed};
-use std::fmt;
-use thiserror::Error;
 
 /// Why an originator isn't made, or refuses a call. It then emitted nothing and is unchanged, except that its sealer
 /// may know that it was asked.
-#[derive(Clone, Copy, Debug, PartialEq, Eq, Error)]
+#[derive(Clone, Copy, Debug, PartialEq, Eq)]
 pub enum OriginFault {
     /// O1: the configuration or the counters aren't allowed, or the payload's text is too long.
     BadConfig,
@@ -53,37 +51,6 @@ impl OriginFault {
             OriginFault::Memory => "O10",
         };
         Code { name, place: None }
-    }
-}
-
-impl fmt::Display for OriginFault {
-    ghost output = { λ fault. Some (origin_fault_text fault) };
-
-    fn fmt<W: fmt::Write>(&self, f: &mut fmt::Formatter<W>) -> fmt::Result {
-        match self {
-            OriginFault::BadConfig => f.write_str(
-                "the configuration or the counters aren't allowed, or the payload is too long",
-            ),
-            OriginFault::NotSyslog => f.write_str("what was submitted is no message of RFC 5424"),
-            OriginFault::HasBlock => f.write_str("the message has an element ssign or ssign-cert"),
-            OriginFault::NotBegun => f.write_str("the originator hasn't begun"),
-            OriginFault::AlreadyBegun => f.write_str(
-                "the originator has begun already, or goes on behind another one",
-            ),
-            OriginFault::SealRefused => f.write_str(
-                "the sealer refused to sign a block message that is due",
-            ),
-            OriginFault::SignatureLength => f.write_str(
-                "the sealer's signature has no octet, or more than 1024",
-            ),
-            OriginFault::NumbersSpent => f.write_str(
-                "the message's number in its group would be over 9999999999",
-            ),
-            OriginFault::CounterSpent => f.write_str(
-                "the GBC of a signature block that is due would be over 9999999999",
-            ),
-            OriginFault::Memory => f.write_str("out of memory"),
-        }
     }
 }
 

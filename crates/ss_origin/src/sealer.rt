@@ -8,30 +8,14 @@ ghost use Rattle.ss_origin.specs.Asking.{IsSameKey};
 
 use ss_block::{Payload, Scheme};
 use std::alloc::Global;
-use std::fmt;
-use thiserror::Error;
 
 /// Why octets aren't signed.
-#[derive(Clone, Copy, Debug, PartialEq, Eq, Error)]
+#[derive(Clone, Copy, Debug, PartialEq, Eq)]
 pub enum SealFault {
     /// The key can't be used, or not for these octets.
     Refused,
     /// Memory ran out.
     Memory,
-}
-
-impl fmt::Display for SealFault {
-    ghost use Rattle.std.specs.Prelude.{Some};
-    ghost use Rattle.ss_origin.specs.FaultText.{seal_fault_text};
-
-    ghost output = { λ fault. Some (seal_fault_text fault) };
-
-    fn fmt<W: fmt::Write>(&self, f: &mut fmt::Formatter<W>) -> fmt::Result {
-        match self {
-            SealFault::Refused => f.write_str("the key can't sign these octets"),
-            SealFault::Memory => f.write_str("out of memory"),
-        }
-    }
 }
 
 /// Whoever signs for an originator, with the key of its payload (RFC 5848, sections 4.2.8 and 5.2). It may know what it

@@ -5,5 +5,5 @@ pub mod records
 pub mod forms
 pub mod runs
 pub mod Verdict
-pub mod FaultText
+pub mod FaultCode
 pub mod VerdictLaws

@@ -1,7 +1,7 @@
 //! Why a run over a log gave no output.
-ghost use Rattle.std.specs.Prelude.{◌≡◌, Some};
+ghost use Rattle.std.specs.Prelude.{◌≡◌};
 ghost use Rattle.ss_octets.specs.Code.{IsCode};
-ghost use Rattle.ss_report.specs.FaultText.{run_fault_code, run_fault_text};
+ghost use Rattle.ss_report.specs.FaultCode.{run_fault_code};
 ghost use Rattle.ss_report.specs.declared.fault.RunFault.TheVariants.{Extract, Frame, Memory, Review};
 
 use crate::runs::extraction::ExtractFault;
@@ -9,11 +9,9 @@ use ss_frame::FrameFault;
 use ss_octets::{Code, NoMemory};
 use ss_review::ReviewFault;
 use std::alloc::{AllocError, AllocFailed};
-use std::fmt;
-use thiserror::Error;
 
 /// Why a run gave no output. But for a failed write, nothing was written.
-#[derive(Clone, Copy, Debug, PartialEq, Eq, Error)]
+#[derive(Clone, Copy, Debug, PartialEq, Eq)]
 pub enum RunFault {
     /// The log couldn't be read to its end: F1 to F5, or F9.
     Frame(FrameFault),
@@ -41,20 +39,6 @@ impl RunFault {
             RunFault::Memory => "W2",
         };
         Code { name, place: None }
-    }
-}
-
-impl fmt::Display for RunFault {
-    ghost output = { λ fault. Some (run_fault_text fault) };
-
-    fn fmt<W: fmt::Write>(&self, f: &mut fmt::Formatter<W>) -> fmt::Result {
-        match self {
-            RunFault::Frame(fault) => write!(f, "{fault}"),
-            RunFault::Review(fault) => write!(f, "{fault}"),
-            RunFault::Extract(fault) => write!(f, "{fault}"),
-            RunFault::Write => f.write_str("a write or a flush failed"),
-            RunFault::Memory => f.write_str("out of memory"),
-        }
     }
 }
 

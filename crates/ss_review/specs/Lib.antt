@@ -9,4 +9,4 @@ pub mod counted
 pub mod pinned
 pub mod Laws
 pub mod deliveries
-pub mod FaultText
+pub mod FaultCode

@@ -1,16 +1,14 @@
 //! Why a reviewer gives no answer.
-ghost use Rattle.std.specs.Prelude.{◌≡◌, Some};
+ghost use Rattle.std.specs.Prelude.{◌≡◌};
 ghost use Rattle.ss_octets.specs.Code.{IsCode};
-ghost use Rattle.ss_review.specs.FaultText.{review_fault_code, review_fault_text};
+ghost use Rattle.ss_review.specs.FaultCode.{review_fault_code};
 ghost use Rattle.ss_review.specs.declared.fault.ReviewFault.TheVariants.{Memory};
 
 use ss_octets::{Code, NoMemory};
 use std::alloc::{AllocError, AllocFailed};
-use std::fmt;
-use thiserror::Error;
 
 /// Why a reviewer gives no answer. It is unchanged then.
-#[derive(Clone, Copy, Debug, PartialEq, Eq, Error)]
+#[derive(Clone, Copy, Debug, PartialEq, Eq)]
 pub enum ReviewFault {
     /// V1: out of memory.
     Memory,
@@ -28,17 +26,6 @@ impl ReviewFault {
             ReviewFault::TooManyMessages => "V2",
         };
         Code { name, place: None }
-    }
-}
-
-impl fmt::Display for ReviewFault {
-    ghost output = { λ fault. Some (review_fault_text fault) };
-
-    fn fmt<W: fmt::Write>(&self, f: &mut fmt::Formatter<W>) -> fmt::Result {
-        match self {
-            ReviewFault::Memory => f.write_str("out of memory"),
-            ReviewFault::TooManyMessages => f.write_str("more messages were fed than allowed"),
-        }
     }
 }
 

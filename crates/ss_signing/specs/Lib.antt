@@ -13,4 +13,4 @@ pub mod PlanLaws
 pub mod GoingOn
 pub mod WrapLaws
 pub mod LineLaws
-pub mod FaultText
+pub mod FaultCode

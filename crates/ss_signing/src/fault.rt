@@ -1,18 +1,16 @@
 //! Why a log was neither planned nor signed.
-ghost use Rattle.std.specs.Prelude.{◌≡◌, Some};
+ghost use Rattle.std.specs.Prelude.{◌≡◌};
 ghost use Rattle.ss_octets.specs.Code.{IsCode};
 ghost use Rattle.ss_signing.specs.declared.fault.SignFault.TheVariants.{Run};
-ghost use Rattle.ss_signing.specs.FaultText.{sign_fault_code, sign_fault_text};
+ghost use Rattle.ss_signing.specs.FaultCode.{sign_fault_code};
 ghost use Rattle.ss_report.specs.declared.fault.RunFault.TheVariants.{Memory};
 
 use ss_octets::{Code, NoMemory};
 use ss_origin::OriginFault;
 use ss_report::RunFault;
-use std::fmt;
-use thiserror::Error;
 
 /// Why nothing was planned or signed. But for a failed write, nothing was written.
-#[derive(Clone, Copy, Debug, PartialEq, Eq, Error)]
+#[derive(Clone, Copy, Debug, PartialEq, Eq)]
 pub enum SignFault {
     /// The log couldn't be read to its end (F1 to F5, F9), a message can't be written as a line (E2), a write or a flush
     /// failed (W1), or memory ran out (W2).
@@ -56,29 +54,6 @@ impl SignFault {
                 name: fault.code().name,
                 place: place.map(|place| place as u64),
             },
-        }
-    }
-}
-
-impl fmt::Display for SignFault {
-    ghost output = { λ fault. Some (sign_fault_text fault) };
-
-    fn fmt<W: fmt::Write>(&self, f: &mut fmt::Formatter<W>) -> fmt::Result {
-        match self {
-            SignFault::Run(fault) => write!(f, "{fault}"),
-            SignFault::TornInput { pos } => write!(
-                f,
-                "the log ends inside a frame or line that begins at octet {pos}"
-            ),
-            SignFault::LongWrap { place } => write!(
-                f,
-                "the wrap of a message is longer than a message may be, at place {place}"
-            ),
-            SignFault::Origin { fault, place: None } => write!(f, "{fault}"),
-            SignFault::Origin {
-                fault,
-                place: Some(place),
-            } => write!(f, "{fault}, at place {place}"),
         }
     }
 }

@@ -17,4 +17,4 @@ pub mod Remark
 pub mod MessageCount
 pub mod Progress
 pub mod ReadBack
-pub mod FaultText
+pub mod FaultCode

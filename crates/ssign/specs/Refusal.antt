@@ -1,14 +1,14 @@
 -- Why a command gives no verdict: its code, and the exit status.
 use Rattle.std.specs.Prelude.{ℕ, Bool, true, false, List, Option, Some, None, option_map}
 use Rattle.ss_octets.specs.declared.code.Code.{Code}
-use Rattle.ss_report.specs.FaultText.{run_fault_code}
+use Rattle.ss_report.specs.FaultCode.{run_fault_code}
 use Rattle.ss_report.specs.declared.fault.RunFault.{RunFault}
 use Rattle.ss_report.specs.declared.fault.RunFault.TheVariants as run
 use Rattle.ss_signing.specs.declared.fault.SignFault.{SignFault}
 use Rattle.ss_signing.specs.declared.fault.SignFault.TheVariants as signing
-use Rattle.ss_signing.specs.FaultText.{sign_fault_code}
-use Rattle.ss_answers.specs.FaultText.{answer_fault_code, counter_fault_code, start_fault_code}
-use Rattle.ssign.specs.FaultText.{settings_fault_code}
+use Rattle.ss_signing.specs.FaultCode.{sign_fault_code}
+use Rattle.ss_answers.specs.FaultCode.{answer_fault_code, counter_fault_code, start_fault_code}
+use Rattle.ssign.specs.FaultCode.{settings_fault_code}
 use Rattle.ssign.specs.declared.extraction.ExtractionFault.TheVariants as extraction
 use Rattle.ssign.specs.declared.refusal.Refusal.{Refusal}
 use Rattle.ssign.specs.declared.refusal.Refusal.TheVariants.{NoOption, SalvagedLines, Extraction, From, Counters, Pinned}

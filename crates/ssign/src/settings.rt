@@ -3,7 +3,7 @@ ghost use Rattle.std.specs.Prelude.{◌≡◌, ◌≤◌, ℕ, Option, Some, IfO
 ghost use Rattle.ss_message.specs.Draft.{drafted_field};
 ghost use Rattle.ss_octets.specs.Code.{IsCode};
 ghost use Rattle.ssign.specs.CommandLine.{HasNumber};
-ghost use Rattle.ssign.specs.FaultText.{settings_fault_code};
+ghost use Rattle.ssign.specs.FaultCode.{settings_fault_code};
 ghost use Rattle.ssign.specs.Settings.{HasChoices, HasNumberIn, HasTexts, IsRead};
 ghost use Rattle.ssign.specs.Settings.{FieldGives, Gives, HeadGives, field_in};
 ghost use Rattle.ssign.specs.declared.choices.Choices.{Choices};
@@ -23,8 +23,6 @@ use ss_octets::{Bytes, Code, NoMemory};
 use ss_origin::Config;
 use ss_payload::stamp_of;
 use std::alloc::Global;
-use std::fmt;
-use thiserror::Error;
 
 /// The texts that the options give.
 #[derive(Clone, Copy, Debug)]
@@ -50,7 +48,7 @@ pub struct Settings {
 }
 
 /// Why options give no settings.
-#[derive(Clone, Copy, Debug, PartialEq, Eq, Error)]
+#[derive(Clone, Copy, Debug, PartialEq, Eq)]
 pub enum SettingsFault {
     /// P2: the text of this option is out of its form.
     OutOfForm(TextOption),
@@ -68,22 +66,6 @@ impl SettingsFault {
             SettingsFault::Memory => "W2",
         };
         Code { name, place: None }
-    }
-}
-
-impl fmt::Display for SettingsFault {
-    ghost use Rattle.std.specs.Prelude.{Some};
-    ghost use Rattle.ssign.specs.FaultText.{settings_fault_text};
-
-    ghost output = { λ fault. Some (settings_fault_text fault) };
-
-    fn fmt<W: fmt::Write>(&self, f: &mut fmt::Formatter<W>) -> fmt::Result {
-        match self {
-            SettingsFault::OutOfForm(option) => {
-                write!(f, "the text of --{} is out of its form", option.name())
-            }
-            SettingsFault::Memory => f.write_str("out of memory"),
-        }
     }
 }
 

@@ -5,10 +5,10 @@ use crate::rows::{CARRIED, EXTRACT, QUESTIONS, QUESTIONS_ONCE, REPORT};
 use crate::run::{Done, Task, limits_of, run};
 use crate::texts::{Text, log_of};
 use ss_frame::{Buffered, Form, FrameFault, Limits};
+use ss_octets::Code;
 use ss_report::{ExtractFault, RunFault, Verdict};
 use ss_review::ReviewFault;
 use std::alloc::{AllocError, Global};
-use std::fmt::Display;
 use std::io::ErrorKind;
 use std::process::Abort;
 use std::test::Fail;
@@ -32,53 +32,27 @@ const REFUSALS: [Refusal; 3] = [
     Refusal::Nothing,
 ];
 
-/// The code of each fault of a run as it is printed, and its words.
-const PRINTED: [(RunFault, &str, &str); 13] = [
-    (
-        RunFault::Frame(FrameFault::BadLength { pos: 7 }),
-        "F1 7",
-        "a frame's length is malformed, at octet 7",
-    ),
-    (
-        RunFault::Frame(FrameFault::TooLong { pos: 7 }),
-        "F2 7",
-        "a message becomes longer than allowed, at octet 7",
-    ),
-    (RunFault::Frame(FrameFault::Read), "F3", "a read failed"),
-    (RunFault::Frame(FrameFault::Memory), "F4", "out of memory"),
+/// Each fault of a run, and its code as it is printed.
+const PRINTED: [(RunFault, &str); 13] = [
+    (RunFault::Frame(FrameFault::BadLength { pos: 7 }), "F1 7"),
+    (RunFault::Frame(FrameFault::TooLong { pos: 7 }), "F2 7"),
+    (RunFault::Frame(FrameFault::Read), "F3"),
+    (RunFault::Frame(FrameFault::Memory), "F4"),
     (
         RunFault::Frame(FrameFault::TooManyMessages { pos: 7 }),
         "F5 7",
-        "octets follow the last message that is allowed, at octet 7",
     ),
-    (
-        RunFault::Frame(FrameFault::Failed),
-        "F6",
-        "an earlier call refused the stream",
-    ),
-    (
-        RunFault::Frame(FrameFault::EmptyLine { pos: 7 }),
-        "F9 7",
-        "a line is empty, at octet 7",
-    ),
-    (RunFault::Review(ReviewFault::Memory), "V1", "out of memory"),
-    (
-        RunFault::Review(ReviewFault::TooManyMessages),
-        "V2",
-        "more messages were fed than allowed",
-    ),
-    (
-        RunFault::Extract(ExtractFault::Absent { place: 7 }),
-        "E1 7",
-        "the log has no message at place 7",
-    ),
+    (RunFault::Frame(FrameFault::Failed), "F6"),
+    (RunFault::Frame(FrameFault::EmptyLine { pos: 7 }), "F9 7"),
+    (RunFault::Review(ReviewFault::Memory), "V1"),
+    (RunFault::Review(ReviewFault::TooManyMessages), "V2"),
+    (RunFault::Extract(ExtractFault::Absent { place: 7 }), "E1 7"),
     (
         RunFault::Extract(ExtractFault::HoldsLf { place: 7 }),
         "E2 7",
-        "a message that is to be one line holds LF, at place 7",
     ),
-    (RunFault::Write, "W1", "a write or a flush failed"),
-    (RunFault::Memory, "W2", "out of memory"),
+    (RunFault::Write, "W1"),
+    (RunFault::Memory, "W2"),
 ];
 
 /// A run over frames that says yes to everything.
@@ -208,13 +182,9 @@ fn stops_at_frames(rt: &(impl Abort + AllocGlobal), job: Job) -> Result<(), Fail
     Ok(())
 }
 
-/// The fault is printed so.
-fn prints<F: Display>(
-    rt: &(impl Abort + AllocGlobal),
-    fault: &F,
-    text: &str,
-) -> Result<(), AllocError> {
-    let printed = format!(in rt.alloc(); "{fault}")?;
+/// The code is printed so.
+fn prints(rt: &(impl Abort + AllocGlobal), code: &Code, text: &str) -> Result<(), AllocError> {
+    let printed = format!(in rt.alloc(); "{code}")?;
     assert_eq!(rt; printed.as_str(), text);
     Ok(())
 }
@@ -235,9 +205,8 @@ fn stops_over(
 
 #[test]
 fn stops(rt: HostRuntime) -> Result<(), Fail> {
-    for (fault, code, text) in &PRINTED {
+    for (fault, code) in &PRINTED {
         prints(&rt, &fault.code(), code)?;
-        prints(&rt, fault, text)?;
     }
     let log = log_of(rt.alloc(), &TEXTS, Form::Frames, b"")?;
     for (job, text) in &JOBS {

@@ -9,11 +9,10 @@ use ss_answers::{
 use ss_block::Session;
 use ss_frame::Watched;
 use ss_message::Field;
-use ss_octets::{Bytes, NoMemory};
+use ss_octets::{Bytes, Code, NoMemory};
 use ss_origin::{Grouping, NextNumber, SealFault};
 use ss_review::{Judge, Verifier};
 use std::alloc::Global;
-use std::fmt::Display;
 use std::io::ErrorKind;
 use std::process::Abort;
 use std::test::Fail;
@@ -105,69 +104,33 @@ fn sees_no_end(rt: &(impl Abort + AllocGlobal), text: &[u8]) {
     assert_eq!(rt; reader.into_inner().taken, 1001);
 }
 
-/// Each fault of answers, its code as it is printed, and its words.
-const ANSWER_FAULTS: [(AnswerFault, &str, &str); 4] = [
-    (
-        AnswerFault::BadLine { line: 7 },
-        "A1 7",
-        "a line isn't an answer, at line 7",
-    ),
-    (
-        AnswerFault::Read,
-        "A2",
-        "the answers file couldn't be opened or read",
-    ),
-    (
-        AnswerFault::TooBig,
-        "A3",
-        "the answers file has more octets than allowed",
-    ),
-    (AnswerFault::Memory, "A4", "out of memory"),
+/// Each fault of answers, and its code as it is printed.
+const ANSWER_FAULTS: [(AnswerFault, &str); 4] = [
+    (AnswerFault::BadLine { line: 7 }, "A1 7"),
+    (AnswerFault::Read, "A2"),
+    (AnswerFault::TooBig, "A3"),
+    (AnswerFault::Memory, "A4"),
 ];
 
 /// Each fault of counters in the same way.
-const COUNTER_FAULTS: [(CounterFault, &str, &str); 5] = [
-    (
-        CounterFault::BadLine { line: 7 },
-        "C1 7",
-        "a line isn't a counter, at line 7",
-    ),
-    (
-        CounterFault::Read,
-        "C2",
-        "the counters file couldn't be opened or read",
-    ),
-    (
-        CounterFault::TooBig,
-        "C3",
-        "the counters file has more octets than allowed",
-    ),
-    (
-        CounterFault::NotWhole,
-        "C3",
-        "the counters file isn't whole",
-    ),
-    (CounterFault::Memory, "C4", "out of memory"),
+const COUNTER_FAULTS: [(CounterFault, &str); 5] = [
+    (CounterFault::BadLine { line: 7 }, "C1 7"),
+    (CounterFault::Read, "C2"),
+    (CounterFault::TooBig, "C3"),
+    (CounterFault::NotWhole, "C3"),
+    (CounterFault::Memory, "C4"),
 ];
 
 /// Each fault of a start in the same way.
-const START_FAULTS: [(StartFault, &str, &str); 3] = [
-    (
-        StartFault::NoSession,
-        "C5",
-        "no counter is of the signature blocks of this session",
-    ),
-    (
-        StartFault::OtherGroup { counter: 7 },
-        "C6 7",
-        "a counter is of a group that isn't there, at counter 7",
-    ),
-    (StartFault::Memory, "C4", "out of memory"),
+const START_FAULTS: [(StartFault, &str); 3] = [
+    (StartFault::NoSession, "C5"),
+    (StartFault::OtherGroup { counter: 7 }, "C6 7"),
+    (StartFault::Memory, "C4"),
 ];
 
-/// Whether the fault is printed so.
-fn is_printed<F: Display>(rt: &impl AllocGlobal, fault: &F, text: &str) -> bool {
-    match format!(in rt.alloc(); "{fault}") {
+/// Whether the code is printed so.
+fn is_printed(rt: &impl AllocGlobal, code: &Code, text: &str) -> bool {
+    match format!(in rt.alloc(); "{code}") {
         Ok(printed) => printed.as_str() == text,
         Err(_) => false,
     }
@@ -175,17 +138,14 @@ fn is_printed<F: Display>(rt: &impl AllocGlobal, fault: &F, text: &str) -> bool 
 
 #[test]
 fn refuses(rt: HostRuntime) {
-    for (fault, code, text) in &ANSWER_FAULTS {
+    for (fault, code) in &ANSWER_FAULTS {
         assert!(rt; is_printed(&rt, &fault.code(), code), "{code}");
-        assert!(rt; is_printed(&rt, fault, text), "{text}");
     }
-    for (fault, code, text) in &COUNTER_FAULTS {
+    for (fault, code) in &COUNTER_FAULTS {
         assert!(rt; is_printed(&rt, &fault.code(), code), "{code}");
-        assert!(rt; is_printed(&rt, fault, text), "{text}");
     }
-    for (fault, code, text) in &START_FAULTS {
+    for (fault, code) in &START_FAULTS {
         assert!(rt; is_printed(&rt, &fault.code(), code), "{code}");
-        assert!(rt; is_printed(&rt, fault, text), "{text}");
     }
     for (text, max, fault) in &REFUSED {
         assert_eq!(rt; read(&rt, text, *max).err(), Some(*fault), "{text:?}");

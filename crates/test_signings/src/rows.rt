@@ -47,7 +47,7 @@ struct Made {
     text: &'static [u8],
 }
 
-/// A run over a log in this form that writes nothing: why, and the code and the words of that as they are printed.
+/// A run over a log in this form that writes nothing: why, and the code of that as it is printed.
 #[derive(Clone, Copy)]
 struct Refused {
     job: Job,
@@ -57,7 +57,6 @@ struct Refused {
     sizes: Sizes,
     fault: SignFault,
     code: &'static str,
-    words: &'static str,
 }
 
 /// A block for ten messages, sent once.
@@ -247,7 +246,6 @@ const REFUSED: [Refused; 39] = [
             place: None,
         },
         code: "O6",
-        words: "the sealer refused to sign a block message that is due",
     },
     Refused {
         job: Job::Sign(Seal::FaultFor(SealFault::Memory, CERTIFICATE)),
@@ -260,7 +258,6 @@ const REFUSED: [Refused; 39] = [
             place: None,
         },
         code: "O10",
-        words: "out of memory",
     },
     Refused {
         job: SIGN,
@@ -270,7 +267,6 @@ const REFUSED: [Refused; 39] = [
         sizes: DEFAULT,
         fault: TornInput { pos: 0 },
         code: "P1 0",
-        words: "the log ends inside a frame or line that begins at octet 0",
     },
     Refused {
         job: Job::Plan,
@@ -280,7 +276,6 @@ const REFUSED: [Refused; 39] = [
         sizes: DEFAULT,
         fault: TornInput { pos: 0 },
         code: "P1 0",
-        words: "the log ends inside a frame or line that begins at octet 0",
     },
     Refused {
         job: SIGN,
@@ -293,7 +288,6 @@ const REFUSED: [Refused; 39] = [
             place: Some(0),
         },
         code: "O2 0",
-        words: "what was submitted is no message of RFC 5424, at place 0",
     },
     Refused {
         job: Job::Plan,
@@ -306,7 +300,6 @@ const REFUSED: [Refused; 39] = [
             place: Some(0),
         },
         code: "O2 0",
-        words: "what was submitted is no message of RFC 5424, at place 0",
     },
     Refused {
         job: SIGN,
@@ -319,7 +312,6 @@ const REFUSED: [Refused; 39] = [
             place: Some(1),
         },
         code: "O2 1",
-        words: "what was submitted is no message of RFC 5424, at place 1",
     },
     Refused {
         job: Job::Plan,
@@ -332,7 +324,6 @@ const REFUSED: [Refused; 39] = [
             place: Some(1),
         },
         code: "O3 1",
-        words: "the message has an element ssign or ssign-cert, at place 1",
     },
     Refused {
         job: SIGN,
@@ -342,7 +333,6 @@ const REFUSED: [Refused; 39] = [
         sizes: DEFAULT,
         fault: TornInput { pos: 20 },
         code: "P1 20",
-        words: "the log ends inside a frame or line that begins at octet 20",
     },
     Refused {
         job: Job::Plan,
@@ -352,7 +342,6 @@ const REFUSED: [Refused; 39] = [
         sizes: DEFAULT,
         fault: TornInput { pos: 20 },
         code: "P1 20",
-        words: "the log ends inside a frame or line that begins at octet 20",
     },
     Refused {
         job: SIGN,
@@ -365,7 +354,6 @@ const REFUSED: [Refused; 39] = [
             place: None,
         },
         code: "O1",
-        words: "the configuration or the counters aren't allowed, or the payload is too long",
     },
     Refused {
         job: SIGN,
@@ -378,7 +366,6 @@ const REFUSED: [Refused; 39] = [
             place: None,
         },
         code: "O1",
-        words: "the configuration or the counters aren't allowed, or the payload is too long",
     },
     Refused {
         job: Job::Plan,
@@ -391,7 +378,6 @@ const REFUSED: [Refused; 39] = [
             place: None,
         },
         code: "O1",
-        words: "the configuration or the counters aren't allowed, or the payload is too long",
     },
     // The log comes before the originator, and its messages in their order.
     Refused {
@@ -402,7 +388,6 @@ const REFUSED: [Refused; 39] = [
         sizes: (0, 1),
         fault: TornInput { pos: 0 },
         code: "P1 0",
-        words: "the log ends inside a frame or line that begins at octet 0",
     },
     Refused {
         job: SIGN,
@@ -412,7 +397,6 @@ const REFUSED: [Refused; 39] = [
         sizes: (0, 1),
         fault: Run(RunFault::Frame(FrameFault::BadLength { pos: 5 })),
         code: "F1 5",
-        words: "a frame's length is malformed, at octet 5",
     },
     Refused {
         job: Job::Plan,
@@ -422,7 +406,6 @@ const REFUSED: [Refused; 39] = [
         sizes: DEFAULT,
         fault: TornInput { pos: 5 },
         code: "P1 5",
-        words: "the log ends inside a frame or line that begins at octet 5",
     },
     Refused {
         job: Job::Plan,
@@ -432,7 +415,6 @@ const REFUSED: [Refused; 39] = [
         sizes: DEFAULT,
         fault: Run(RunFault::Frame(FrameFault::EmptyLine { pos: 4 })),
         code: "F9 4",
-        words: "a line is empty, at octet 4",
     },
     Refused {
         job: NOT_BEGUN,
@@ -445,7 +427,6 @@ const REFUSED: [Refused; 39] = [
             place: None,
         },
         code: "O6",
-        words: "the sealer refused to sign a block message that is due",
     },
     // A block that a message fills, and one that is left to the flush.
     Refused {
@@ -459,7 +440,6 @@ const REFUSED: [Refused; 39] = [
             place: Some(1),
         },
         code: "O6 1",
-        words: "the sealer refused to sign a block message that is due, at place 1",
     },
     Refused {
         job: NOT_FLUSHED,
@@ -472,7 +452,6 @@ const REFUSED: [Refused; 39] = [
             place: None,
         },
         code: "O6",
-        words: "the sealer refused to sign a block message that is due",
     },
     Refused {
         job: EMPTY,
@@ -485,7 +464,6 @@ const REFUSED: [Refused; 39] = [
             place: Some(1),
         },
         code: "O7 1",
-        words: "the sealer's signature has no octet, or more than 1024, at place 1",
     },
     Refused {
         job: EMPTY,
@@ -498,7 +476,6 @@ const REFUSED: [Refused; 39] = [
             place: None,
         },
         code: "O7",
-        words: "the sealer's signature has no octet, or more than 1024",
     },
     Refused {
         job: NO_MEMORY,
@@ -511,7 +488,6 @@ const REFUSED: [Refused; 39] = [
             place: Some(1),
         },
         code: "O10 1",
-        words: "out of memory, at place 1",
     },
     Refused {
         job: NO_MEMORY,
@@ -524,7 +500,6 @@ const REFUSED: [Refused; 39] = [
             place: None,
         },
         code: "O10",
-        words: "out of memory",
     },
     // Counters that no originator goes on at, and those that are near their end.
     Refused {
@@ -538,7 +513,6 @@ const REFUSED: [Refused; 39] = [
             place: None,
         },
         code: "O1",
-        words: "the configuration or the counters aren't allowed, or the payload is too long",
     },
     Refused {
         job: Job::Plan,
@@ -551,7 +525,6 @@ const REFUSED: [Refused; 39] = [
             place: None,
         },
         code: "O1",
-        words: "the configuration or the counters aren't allowed, or the payload is too long",
     },
     Refused {
         job: Job::Plan,
@@ -564,7 +537,6 @@ const REFUSED: [Refused; 39] = [
             place: Some(1),
         },
         code: "O8 1",
-        words: "the message's number in its group would be over 9999999999, at place 1",
     },
     Refused {
         job: Job::Plan,
@@ -577,7 +549,6 @@ const REFUSED: [Refused; 39] = [
             place: None,
         },
         code: "O9",
-        words: "the GBC of a signature block that is due would be over 9999999999",
     },
     Refused {
         job: Job::Plan,
@@ -590,7 +561,6 @@ const REFUSED: [Refused; 39] = [
             place: Some(1),
         },
         code: "O9 1",
-        words: "the GBC of a signature block that is due would be over 9999999999, at place 1",
     },
     Refused {
         job: Job::Ahead,
@@ -603,7 +573,6 @@ const REFUSED: [Refused; 39] = [
             place: None,
         },
         code: "O1",
-        words: "the configuration or the counters aren't allowed, or the payload is too long",
     },
     Refused {
         job: Job::Ahead,
@@ -616,7 +585,6 @@ const REFUSED: [Refused; 39] = [
             place: None,
         },
         code: "O1",
-        words: "the configuration or the counters aren't allowed, or the payload is too long",
     },
     Refused {
         job: Job::Ahead,
@@ -629,7 +597,6 @@ const REFUSED: [Refused; 39] = [
             place: Some(1),
         },
         code: "O8 1",
-        words: "the message's number in its group would be over 9999999999, at place 1",
     },
     Refused {
         job: Job::Ahead,
@@ -642,7 +609,6 @@ const REFUSED: [Refused; 39] = [
             place: None,
         },
         code: "O9",
-        words: "the GBC of a signature block that is due would be over 9999999999",
     },
     Refused {
         job: Job::Ahead,
@@ -655,7 +621,6 @@ const REFUSED: [Refused; 39] = [
             place: Some(1),
         },
         code: "O9 1",
-        words: "the GBC of a signature block that is due would be over 9999999999, at place 1",
     },
     Refused {
         job: SIGN,
@@ -668,7 +633,6 @@ const REFUSED: [Refused; 39] = [
             place: None,
         },
         code: "O1",
-        words: "the configuration or the counters aren't allowed, or the payload is too long",
     },
     Refused {
         job: SIGN,
@@ -681,7 +645,6 @@ const REFUSED: [Refused; 39] = [
             place: None,
         },
         code: "O1",
-        words: "the configuration or the counters aren't allowed, or the payload is too long",
     },
     Refused {
         job: SIGN,
@@ -694,7 +657,6 @@ const REFUSED: [Refused; 39] = [
             place: Some(1),
         },
         code: "O8 1",
-        words: "the message's number in its group would be over 9999999999, at place 1",
     },
     Refused {
         job: SIGN,
@@ -707,7 +669,6 @@ const REFUSED: [Refused; 39] = [
             place: None,
         },
         code: "O9",
-        words: "the GBC of a signature block that is due would be over 9999999999",
     },
     Refused {
         job: SIGN,
@@ -720,7 +681,6 @@ const REFUSED: [Refused; 39] = [
             place: Some(1),
         },
         code: "O9 1",
-        words: "the GBC of a signature block that is due would be over 9999999999, at place 1",
     },
 ];
 
@@ -774,7 +734,6 @@ fn sees_refusal(rt: &(impl Abort + AllocGlobal), row: &Refused) -> Result<(), Al
         sizes,
         fault,
         code,
-        words,
     } = *row;
     let task = Task {
         job,
@@ -791,8 +750,6 @@ fn sees_refusal(rt: &(impl Abort + AllocGlobal), row: &Refused) -> Result<(), Al
     assert!(rt; !done.read_failed && !done.write_failed, "{job:?}");
     let spelled = format!(in rt.alloc(); "{}", fault.code())?;
     assert_eq!(rt; spelled.as_str(), code);
-    let said = format!(in rt.alloc(); "{fault}")?;
-    assert_eq!(rt; said.as_str(), words);
     Ok(())
 }
 

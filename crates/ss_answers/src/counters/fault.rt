@@ -1,15 +1,12 @@
 //! Why counters weren't read.
-ghost use Rattle.std.specs.Prelude.{Some};
 ghost use Rattle.ss_octets.specs.Code.{IsCode};
-ghost use Rattle.ss_answers.specs.FaultText.{counter_fault_code, counter_fault_text};
+ghost use Rattle.ss_answers.specs.FaultCode.{counter_fault_code};
 
 use crate::input::InputFault;
 use ss_octets::Code;
-use std::fmt;
-use thiserror::Error;
 
 /// Why a file of counters wasn't read.
-#[derive(Clone, Copy, Debug, Drop, PartialEq, Eq, Error)]
+#[derive(Clone, Copy, Debug, Drop, PartialEq, Eq)]
 pub enum CounterFault {
     /// C1: a line that neither is a counter nor ends a part, an empty one too.
     BadLine {
@@ -38,20 +35,6 @@ impl CounterFault {
             CounterFault::Memory => ("C4", None),
         };
         Code { name, place }
-    }
-}
-
-impl fmt::Display for CounterFault {
-    ghost output = { λ fault. Some (counter_fault_text fault) };
-
-    fn fmt<W: fmt::Write>(&self, f: &mut fmt::Formatter<W>) -> fmt::Result {
-        match self {
-            CounterFault::BadLine { line } => write!(f, "a line isn't a counter, at line {line}"),
-            CounterFault::Read => f.write_str("the counters file couldn't be opened or read"),
-            CounterFault::TooBig => f.write_str("the counters file has more octets than allowed"),
-            CounterFault::NotWhole => f.write_str("the counters file isn't whole"),
-            CounterFault::Memory => f.write_str("out of memory"),
-        }
     }
 }
 

@@ -1,15 +1,13 @@
 //! Why counters don't show where an originator goes on.
-ghost use Rattle.std.specs.Prelude.{◌≡◌, Some};
+ghost use Rattle.std.specs.Prelude.{◌≡◌};
 ghost use Rattle.ss_octets.specs.Code.{IsCode};
-ghost use Rattle.ss_answers.specs.FaultText.{start_fault_code, start_fault_text};
+ghost use Rattle.ss_answers.specs.FaultCode.{start_fault_code};
 ghost use Rattle.ss_answers.specs.declared.counters.start_fault.StartFault.TheVariants.{Memory};
 
 use ss_octets::{Code, NoMemory};
-use std::fmt;
-use thiserror::Error;
 
 /// Why no originator goes on at these counters.
-#[derive(Clone, Copy, Debug, Drop, PartialEq, Eq, Error)]
+#[derive(Clone, Copy, Debug, Drop, PartialEq, Eq)]
 pub enum StartFault {
     /// C5: none is of the session's signature blocks.
     NoSession,
@@ -33,25 +31,6 @@ impl StartFault {
             StartFault::Memory => ("C4", None),
         };
         Code { name, place }
-    }
-}
-
-impl fmt::Display for StartFault {
-    ghost output = { λ fault. Some (start_fault_text fault) };
-
-    fn fmt<W: fmt::Write>(&self, f: &mut fmt::Formatter<W>) -> fmt::Result {
-        match self {
-            StartFault::NoSession => {
-                f.write_str("no counter is of the signature blocks of this session")
-            }
-            StartFault::OtherGroup { counter } => {
-                write!(
-                    f,
-                    "a counter is of a group that isn't there, at counter {counter}"
-                )
-            }
-            StartFault::Memory => f.write_str("out of memory"),
-        }
     }
 }
 

@@ -1,13 +1,10 @@
 //! What an extract writes.
-ghost use Rattle.std.specs.Prelude.{Some};
 ghost use Rattle.ss_octets.specs.Code.{IsCode};
-ghost use Rattle.ss_report.specs.FaultText.{extract_fault_code, extract_fault_text};
+ghost use Rattle.ss_report.specs.FaultCode.{extract_fault_code};
 
 use ss_frame::Form;
 use ss_octets::Code;
 use ss_review::Places;
-use std::fmt;
-use thiserror::Error;
 
 /// Which messages of a log an extract writes.
 #[derive(Debug, Drop)]
@@ -36,7 +33,7 @@ pub struct Extraction {
 }
 
 /// Why an extract isn't written. Places count its messages from 0.
-#[derive(Clone, Copy, Debug, PartialEq, Eq, Error)]
+#[derive(Clone, Copy, Debug, PartialEq, Eq)]
 pub enum ExtractFault {
     /// E1: the first of the given places that the log hasn't.
     Absent {
@@ -62,20 +59,6 @@ impl ExtractFault {
         Code {
             name,
             place: Some(place as u64),
-        }
-    }
-}
-
-impl fmt::Display for ExtractFault {
-    ghost output = { λ fault. Some (extract_fault_text fault) };
-
-    fn fmt<W: fmt::Write>(&self, f: &mut fmt::Formatter<W>) -> fmt::Result {
-        match self {
-            ExtractFault::Absent { place } => write!(f, "the log has no message at place {place}"),
-            ExtractFault::HoldsLf { place } => write!(
-                f,
-                "a message that is to be one line holds LF, at place {place}"
-            ),
         }
     }
 }

@@ -1,6 +1,5 @@
--- The text of a fault in words, and its code.
-use Rattle.std.specs.Prelude.{ℕ, List, Option, None, Some, ◌++◌, codes, decimal}
-use Rattle.ss_octets.specs.NoMemory.{no_memory_text}
+-- The codes of faults.
+use Rattle.std.specs.Prelude.{ℕ, List, Option, None, Some, codes}
 use Rattle.ss_answers.specs.declared.fault.AnswerFault.{AnswerFault}
 use Rattle.ss_answers.specs.declared.fault.AnswerFault.TheVariants as answers
 use Rattle.ss_answers.specs.declared.counters.fault.CounterFault.{CounterFault}
@@ -9,13 +8,6 @@ use Rattle.ss_answers.specs.declared.counters.start_fault.StartFault.{StartFault
 use Rattle.ss_answers.specs.declared.counters.start_fault.StartFault.TheVariants as starts
 
 -- why a file of answers wasn't read
-abbrev pub answer_fault_text : AnswerFault → List ℕ
-answer_fault_text (answers.BadLine line) = codes "a line isn't an answer, at line " ++ decimal line
-answer_fault_text answers.Read = codes "the answers file couldn't be opened or read"
-answer_fault_text answers.TooBig = codes "the answers file has more octets than allowed"
-answer_fault_text answers.Memory = no_memory_text
-
--- its code
 abbrev pub answer_fault_code : AnswerFault → List ℕ × Option ℕ
 answer_fault_code (answers.BadLine line) = (codes "A1", Some line)
 answer_fault_code answers.Read = (codes "A2", None)
@@ -23,14 +15,6 @@ answer_fault_code answers.TooBig = (codes "A3", None)
 answer_fault_code answers.Memory = (codes "A4", None)
 
 -- why a file of counters wasn't read
-abbrev pub counter_fault_text : CounterFault → List ℕ
-counter_fault_text (counters.BadLine line) = codes "a line isn't a counter, at line " ++ decimal line
-counter_fault_text counters.Read = codes "the counters file couldn't be opened or read"
-counter_fault_text counters.TooBig = codes "the counters file has more octets than allowed"
-counter_fault_text counters.NotWhole = codes "the counters file isn't whole"
-counter_fault_text counters.Memory = no_memory_text
-
--- its code
 abbrev pub counter_fault_code : CounterFault → List ℕ × Option ℕ
 counter_fault_code (counters.BadLine line) = (codes "C1", Some line)
 counter_fault_code counters.Read = (codes "C2", None)
@@ -39,12 +23,6 @@ counter_fault_code counters.NotWhole = (codes "C3", None)
 counter_fault_code counters.Memory = (codes "C4", None)
 
 -- why no originator goes on at counters
-abbrev pub start_fault_text : StartFault → List ℕ
-start_fault_text starts.NoSession = codes "no counter is of the signature blocks of this session"
-start_fault_text (starts.OtherGroup counter) = codes "a counter is of a group that isn't there, at counter " ++ decimal counter
-start_fault_text starts.Memory = no_memory_text
-
--- its code
 abbrev pub start_fault_code : StartFault → List ℕ × Option ℕ
 start_fault_code starts.NoSession = (codes "C5", None)
 start_fault_code (starts.OtherGroup counter) = (codes "C6", Some counter)

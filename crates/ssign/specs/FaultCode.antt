@@ -1,0 +1,9 @@
+-- The codes of faults.
+use Rattle.std.specs.Prelude.{ℕ, List, Option, None, codes}
+use Rattle.ssign.specs.declared.settings.SettingsFault.{SettingsFault}
+use Rattle.ssign.specs.declared.settings.SettingsFault.TheVariants.{OutOfForm, Memory}
+
+-- why options give no settings
+abbrev pub settings_fault_code : SettingsFault → List ℕ × Option ℕ
+settings_fault_code (OutOfForm option) = (codes "P2", None)
+settings_fault_code Memory = (codes "W2", None)
