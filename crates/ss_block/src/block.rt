@@ -51,17 +51,28 @@ fn are_of(alg: Alg, hashes: &[Hash]) -> bool
     true
 }
 
+/// What both kinds of blocks hold (RFC 5848, sections 4.2.1, 4.2.2, 4.2.3 and 4.2.8). It is read from a block that is in
+/// its ranges.
+#[derive(Debug, Drop)]
+pub struct BlockHeader {
+    /// VER's hash algorithm. All hashes of a signature block are by it.
+    pub alg: Alg,
+    /// RSID, 0 to 9,999,999,999: it rises at each reboot of the originator; 0 where that can't be guaranteed.
+    pub rsid: u64,
+    /// SG and SPRI.
+    pub group: Group,
+    /// SIGN's octets.
+    pub signature: Bytes,
+}
+
 /// A signature block: hashes of messages that are numbered one after another in their group. Contracts see its
 /// fields, which are in their ranges.
 #[derive(Debug, Drop)]
 pub struct SigBlock {
-    alg: Alg,
-    rsid: u64,
-    group: Group,
+    header: BlockHeader,
     gbc: u64,
     first: u64,
     hashes: Hashes,
-    signature: Bytes,
 }
 
 impl Model for SigBlock {
@@ -70,24 +81,24 @@ impl Model for SigBlock {
     ghost Value = { Signature };
 
     ghost view = { λ b. record {
-      alg = b.alg;
-      rsid = b.rsid;
-      group = b.group;
+      alg = b.header.alg;
+      rsid = b.header.rsid;
+      group = b.header.group;
       gbc = b.gbc;
       first = b.first;
       hashes = b.hashes;
-      signature = b.signature;
+      signature = b.header.signature;
     } };
 
     ghost invariant = { λ b. IsSignature
         (record {
-          alg = b.alg;
-          rsid = b.rsid;
-          group = b.group;
+          alg = b.header.alg;
+          rsid = b.header.rsid;
+          group = b.header.group;
           gbc = b.gbc;
           first = b.first;
           hashes = b.hashes;
-          signature = b.signature;
+          signature = b.header.signature;
         }) };
 }
 
@@ -135,35 +146,28 @@ impl SigBlock {
             return None;
         }
         Some(SigBlock {
-            alg,
-            rsid,
-            group,
+            header: BlockHeader {
+                alg,
+                rsid,
+                group,
+                signature,
+            },
             gbc,
             first,
             hashes,
-            signature,
         })
     }
 
-    /// VER's hash algorithm, by which all the hashes are.
-    pub fn alg(&self) -> Alg
-        ensures { result ≡ self.now.alg }
+    /// The algorithm, RSID, the group and SIGN's octets.
+    pub fn header(&self) -> &BlockHeader
+        ensures { result.now ≡ record {
+          alg = self.now.alg;
+          rsid = self.now.rsid;
+          group = self.now.group;
+          signature = self.now.signature;
+        } }
     {
-        self.alg
-    }
-
-    /// RSID, 0 to 9,999,999,999: it rises at each reboot of the originator; 0 where that can't be guaranteed.
-    pub fn rsid(&self) -> u64
-        ensures { result ≡ self.now.rsid }
-    {
-        self.rsid
-    }
-
-    /// SG and SPRI.
-    pub fn group(&self) -> Group
-        ensures { result ≡ self.now.group }
-    {
-        self.group
+        &self.header
     }
 
     /// GBC, 0 to 9,999,999,999: how many signature blocks of the session, in all groups, were sent before this one.
@@ -187,18 +191,11 @@ impl SigBlock {
         &self.hashes
     }
 
-    /// SIGN's octets.
-    pub fn signature(&self) -> &Bytes
-        ensures { result.now ≡ self.now.signature }
-    {
-        &self.signature
-    }
-
     /// The same block with these octets as SIGN's. Takes no memory.
     pub fn with_signature(mut self, signature: Bytes) -> SigBlock
         ensures { result ≡ record self { signature = signature } }
     {
-        self.signature = signature;
+        self.header.signature = signature;
         self
     }
 
@@ -206,20 +203,17 @@ impl SigBlock {
     pub fn assure_in_range(&self)
         ensures { IsSignature self.now }
     {
-        let _rsid = self.rsid;
+        let _rsid = self.header.rsid;
     }
 }
 
 /// A certificate block: a fragment of the payload of a session. Contracts see its fields, which are in their ranges.
 #[derive(Debug, Drop)]
 pub struct CertBlock {
-    alg: Alg,
-    rsid: u64,
-    group: Group,
+    header: BlockHeader,
     total: u32,
     index: u32,
     fragment: Bytes,
-    signature: Bytes,
 }
 
 impl Model for CertBlock {
@@ -228,24 +222,24 @@ impl Model for CertBlock {
     ghost Value = { Certificate };
 
     ghost view = { λ b. record {
-      alg = b.alg;
-      rsid = b.rsid;
-      group = b.group;
+      alg = b.header.alg;
+      rsid = b.header.rsid;
+      group = b.header.group;
       total = b.total;
       index = b.index;
       fragment = b.fragment;
-      signature = b.signature;
+      signature = b.header.signature;
     } };
 
     ghost invariant = { λ b. IsCertificate
         (record {
-          alg = b.alg;
-          rsid = b.rsid;
-          group = b.group;
+          alg = b.header.alg;
+          rsid = b.header.rsid;
+          group = b.header.group;
           total = b.total;
           index = b.index;
           fragment = b.fragment;
-          signature = b.signature;
+          signature = b.header.signature;
         }) };
 }
 
@@ -293,35 +287,28 @@ impl CertBlock {
             return None;
         }
         Some(CertBlock {
-            alg,
-            rsid,
-            group,
+            header: BlockHeader {
+                alg,
+                rsid,
+                group,
+                signature,
+            },
             total,
             index,
             fragment,
-            signature,
         })
     }
 
-    /// VER's hash algorithm.
-    pub fn alg(&self) -> Alg
-        ensures { result ≡ self.now.alg }
+    /// The algorithm, RSID, the group and SIGN's octets.
+    pub fn header(&self) -> &BlockHeader
+        ensures { result.now ≡ record {
+          alg = self.now.alg;
+          rsid = self.now.rsid;
+          group = self.now.group;
+          signature = self.now.signature;
+        } }
     {
-        self.alg
-    }
-
-    /// RSID, 0 to 9,999,999,999.
-    pub fn rsid(&self) -> u64
-        ensures { result ≡ self.now.rsid }
-    {
-        self.rsid
-    }
-
-    /// SG and SPRI.
-    pub fn group(&self) -> Group
-        ensures { result ≡ self.now.group }
-    {
-        self.group
+        &self.header
     }
 
     /// TPBL, 1 to 99,999,999: the octets of the whole payload.
@@ -345,18 +332,11 @@ impl CertBlock {
         &self.fragment
     }
 
-    /// SIGN's octets.
-    pub fn signature(&self) -> &Bytes
-        ensures { result.now ≡ self.now.signature }
-    {
-        &self.signature
-    }
-
     /// The same block with these octets as SIGN's. Takes no memory.
     pub fn with_signature(mut self, signature: Bytes) -> CertBlock
         ensures { result ≡ record self { signature = signature } }
     {
-        self.signature = signature;
+        self.header.signature = signature;
         self
     }
 
@@ -364,6 +344,6 @@ impl CertBlock {
     pub fn assure_in_range(&self)
         ensures { IsCertificate self.now }
     {
-        let _rsid = self.rsid;
+        let _rsid = self.header.rsid;
     }
 }

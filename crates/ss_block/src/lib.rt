@@ -33,7 +33,7 @@ mod texts;
 mod version;
 mod writing;
 
-pub use block::{CertBlock, Group, SigBlock};
+pub use block::{BlockHeader, CertBlock, Group, SigBlock};
 pub use full_reading::{FullReading, read_fully};
 pub use hash::{Alg, Hash, HashPair, hash_of, pair_of};
 pub use hash_array::{array_hashes, put_array_text, put_hash_array};

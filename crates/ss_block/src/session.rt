@@ -75,8 +75,8 @@ pub(crate) fn session_with(
     ensures { IfOk result (λ o. o ≡ session_if_block reading.now (value_of message.now)) }
 {
     let rsid = match reading {
-        Reading::Signature(block) => block.rsid(),
-        Reading::Certificate(block) => block.rsid(),
+        Reading::Signature(block) => block.header().rsid,
+        Reading::Certificate(block) => block.header().rsid,
         Reading::Plain | Reading::Unparsed { .. } | Reading::Spoilt(_) => return Ok(None),
     };
     Ok(Some(Session {

@@ -56,8 +56,8 @@ pub(crate) fn sender_with(message: &Message<'_>, reading: &Reading) -> Option<Se
     ensures rsid { HasRsid result reading.now }
 {
     let rsid = match reading {
-        Reading::Signature(block) => block.rsid(),
-        Reading::Certificate(block) => block.rsid(),
+        Reading::Signature(block) => block.header().rsid,
+        Reading::Certificate(block) => block.header().rsid,
         Reading::Plain | Reading::Unparsed { .. } | Reading::Spoilt(_) => return None,
     };
     Some(SessionPlaces {

@@ -50,7 +50,7 @@ pub(crate) fn entries_under<'a>(reported: &'a SessionReport, block: &SigBlock) -
     block.assure_in_range();
     let end = block.first() + block.hashes().as_slice().len() as u64;
     entries_between(
-        entries_of_group(reported, block.group()),
+        entries_of_group(reported, block.header().group),
         block.first(),
         end,
     )

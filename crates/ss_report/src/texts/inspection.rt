@@ -219,7 +219,7 @@ fn put_signature<W: Write>(
         (fields_in notation (reading_fields (Reading.Signature block.now) session.now place)) }
 {
     let count = block.hashes().as_slice().len() as u64;
-    put_head(writer, notation, place, session, block.group());
+    put_head(writer, notation, place, session, block.header().group);
     put(writer, notation, b"gbc", Value::Number(block.gbc()));
     put(writer, notation, b"first", Value::Number(block.first()));
     put(writer, notation, b"count", Value::Number(count));
@@ -237,7 +237,7 @@ fn put_certificate<W: Write>(
         (fields_in notation (reading_fields (Reading.Certificate block.now) session.now place)) }
 {
     let length = block.fragment().as_slice().len() as u64;
-    put_head(writer, notation, place, session, block.group());
+    put_head(writer, notation, place, session, block.header().group);
     put(
         writer,
         notation,

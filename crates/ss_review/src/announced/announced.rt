@@ -33,7 +33,7 @@ fn add_hashes(rows: &mut Vec<AnnouncedHash>, session: u32, block: &SigBlock) -> 
         ≡ map (row_at js) rows.old.items ++ rows_said (session_at js session) (Hashes block.now)) }
 {
     block.assure_in_range();
-    let group = block.group();
+    let group = block.header().group;
     let mut number = block.first();
     for hash in block.hashes().as_slice() {
         rows.push(AnnouncedHash {

@@ -18,7 +18,7 @@ pub(crate) fn first_number(block: &AnnouncedBlock) -> IndexedNumber
 {
     IndexedNumber {
         session: block.session,
-        group: block.block.group(),
+        group: block.block.header().group,
         number: block.block.first(),
     }
 }

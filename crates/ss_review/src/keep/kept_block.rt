@@ -102,11 +102,11 @@ impl KeptBlock {
     {
         block.assure_in_range();
         let hashes = block.hashes().as_slice();
-        let signature = block.signature().as_slice();
-        let alg = block.alg();
+        let signature = block.header().signature.as_slice();
+        let alg = block.header().alg;
         let packed = Packed::of_signature(alloc, signed.as_slice(), text, alg, hashes, signature)?;
         let content = KeptContent::Hashes {
-            group: block.group(),
+            group: block.header().group,
             gbc: block.gbc(),
             first: block.first(),
             held: packed.count,
@@ -143,10 +143,15 @@ impl KeptBlock {
         }) }
     {
         block.assure_in_range();
-        let signature = block.signature().as_slice();
-        let packed = Packed::of_certificate(alloc, block.alg(), signed.as_slice(), signature)?;
+        let signature = block.header().signature.as_slice();
+        let packed = Packed::of_certificate(
+            alloc,
+            block.header().alg,
+            signed.as_slice(),
+            signature,
+        )?;
         let content = KeptContent::Fragment {
-            group: block.group(),
+            group: block.header().group,
             total: block.total(),
             index: block.index(),
             len: block.fragment().as_slice().len() as u32,

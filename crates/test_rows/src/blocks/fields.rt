@@ -41,13 +41,13 @@ pub struct SignatureFields {
 impl SignatureFields {
     /// Whether these are the block's.
     pub(crate) fn are_of(&self, block: &SigBlock) -> bool {
-        block.alg() == self.alg
-            && block.rsid() == self.rsid
-            && block.group() == self.group
+        block.header().alg == self.alg
+            && block.header().rsid == self.rsid
+            && block.header().group == self.group
             && block.gbc() == self.gbc
             && block.first() == self.first
             && block.hashes().as_slice() == self.hashes
-            && block.signature().as_slice() == self.signature
+            && block.header().signature.as_slice() == self.signature
     }
 
     /// The block that has them.
@@ -75,13 +75,13 @@ pub struct CertificateFields {
 impl CertificateFields {
     /// Whether these are the block's.
     pub(crate) fn are_of(&self, block: &CertBlock) -> bool {
-        block.alg() == self.alg
-            && block.rsid() == self.rsid
-            && block.group() == self.group
+        block.header().alg == self.alg
+            && block.header().rsid == self.rsid
+            && block.header().group == self.group
             && block.total() == self.total
             && block.index() == self.index
             && block.fragment().as_slice() == self.fragment
-            && block.signature().as_slice() == self.signature
+            && block.header().signature.as_slice() == self.signature
     }
 
     /// The block that has them.

@@ -210,7 +210,7 @@ fn signature_written(
     block: &SigBlock,
 ) -> Result<Written, NoMemory> {
     let signed = unsigned_sig(alloc, head, stamp, block)?;
-    if block.signature().as_slice().is_empty() {
+    if block.header().signature.as_slice().is_empty() {
         return Ok((signed, None));
     }
     Ok((signed, Some(write_sig(alloc, head, stamp, block)?)))
@@ -223,7 +223,7 @@ fn certificate_written(
     block: &CertBlock,
 ) -> Result<Written, NoMemory> {
     let signed = unsigned_cert(alloc, head, stamp, block)?;
-    if block.signature().as_slice().is_empty() {
+    if block.header().signature.as_slice().is_empty() {
         return Ok((signed, None));
     }
     Ok((signed, Some(write_cert(alloc, head, stamp, block)?)))
