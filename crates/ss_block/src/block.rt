@@ -194,13 +194,6 @@ impl SigBlock {
         &self.signature
     }
 
-    /// SIGN's octets. What else the block holds is let go.
-    pub fn into_signature(self) -> Bytes
-        ensures { result ≡ self.signature }
-    {
-        self.signature
-    }
-
     /// The same block with these octets as SIGN's. Takes no memory.
     pub fn with_signature(mut self, signature: Bytes) -> SigBlock
         ensures { result ≡ record self { signature = signature } }
@@ -357,13 +350,6 @@ impl CertBlock {
         ensures { result.now ≡ self.now.signature }
     {
         &self.signature
-    }
-
-    /// SIGN's octets. What else the block holds is let go.
-    pub fn into_signature(self) -> Bytes
-        ensures { result ≡ self.signature }
-    {
-        self.signature
     }
 
     /// The same block with these octets as SIGN's. Takes no memory.
