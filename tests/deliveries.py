@@ -105,16 +105,14 @@ def told(log, chains, trusted, valid):
 
 
 def reports(program, cases, trusted=True, valid=True):
-    """The lines of each report, by both reviewers."""
+    """The lines of each report."""
     done = subprocess.run([program], input=b"".join(told(log, chains, trusted, valid) for log, chains in cases), stdout=subprocess.PIPE, timeout=300, check=True)
     found = []
     for line in done.stdout.decode().splitlines():
-        if line in ("pairs", "whole"):
-            if line == "pairs":
-                found.append([])
-            found[-1].append([])
+        if line == "log":
+            found.append([])
         elif not line.startswith(("trust ", "yes ")):
-            found[-1][-1].append(line)
+            found[-1].append(line)
     assert len(found) == len(cases)
     return found
 
@@ -132,12 +130,11 @@ def own_part(chain, log, report):
     return part
 
 
-def see(what, chain, delivery, both, reached, whole=False):
+def see(what, chain, delivery, report, reached, whole=False):
     wanted = said(chain, delivery)
-    for report in both:
-        tell(what, wanted, own_part(chain, delivery.log, report))
-        if whole:
-            tell(what + ", which is whole", [], [line for line in report if line.split(" ")[0] not in ("session", "group", "listed", "count") or line.endswith("incomplete")])
+    tell(what, wanted, own_part(chain, delivery.log, report))
+    if whole:
+        tell(what + ", which is whole", [], [line for line in report if line.split(" ")[0] not in ("session", "group", "listed", "count") or line.endswith("incomplete")])
     reached.update(line.split(" ")[0] for line in wanted)
     reached.update([wanted[0].split(" ")[-1] if wanted and wanted[0].startswith("session") else "not told of"])
 
@@ -201,9 +198,8 @@ def worked_logs(originated, reviewed):
         (answers,) = play(originated, [script])
         sent = sent_in_order(answers)
         log = [sent[it] if isinstance(it, int) else it for it in numbers]
-        (both,) = reports(reviewed, [(log, [chain_of(script, answers)])])
-        for report in both:
-            tell("the log of " + name, wanted, report)
+        (report,) = reports(reviewed, [(log, [chain_of(script, answers)])])
+        tell("the log of " + name, wanted, report)
 
 
 def premises(originated, reviewed):
@@ -212,9 +208,8 @@ def premises(originated, reviewed):
         answers = play(originated, scripts_of_it)
         sent = list(map(sent_in_order, answers))
         chains = list(map(chain_of, scripts_of_it, answers))
-        (both,) = reports(reviewed, [([sent[script][number] for script, number in numbers], chains)], **unanswered)
-        for report in both:
-            tell(name, wanted, report)
+        (report,) = reports(reviewed, [([sent[script][number] for script, number in numbers], chains)], **unanswered)
+        tell(name, wanted, report)
 
 
 def subsets(originated, reviewed):
@@ -225,8 +220,8 @@ def subsets(originated, reviewed):
     for subset in range(1 << len(sent)):
         log = [text for bit, text in enumerate(sent) if subset >> bit & 1]
         cases += [("the subset %d" % subset, log), ("the subset %d, reversed" % subset, log[:0:-1] + log[:1] * 2)]
-    for (name, log), both in zip(cases, reports(reviewed, [(log, [chain]) for _, log in cases])):
-        see(name, chain, Delivery(log, set(chain.submitted())), both, collections.Counter())
+    for (name, log), report in zip(cases, reports(reviewed, [(log, [chain]) for _, log in cases])):
+        see(name, chain, Delivery(log, set(chain.submitted())), report, collections.Counter())
 
 
 # ---- chains by a seed
@@ -258,8 +253,8 @@ def compare(originated, reviewed, seeds, reached):
         cases.append((seed, chain, other, delivery, whole))
         reached.update(kinds_of(chain, other, delivery, whole, pair[0]))
     found = reports(reviewed, [(delivery.log, [chain, other]) for _, chain, other, delivery, _ in cases])
-    for (seed, chain, _, delivery, whole), both in zip(cases, found):
-        see("the delivery of seed %d" % seed, chain, delivery, both, reached, whole)
+    for (seed, chain, _, delivery, whole), report in zip(cases, found):
+        see("the delivery of seed %d" % seed, chain, delivery, report, reached, whole)
 
 
 def main():

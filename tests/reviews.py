@@ -15,8 +15,8 @@ from review_logs import make
 from review_model import Block, Log, questions, reading, review
 from review_runs import answers_to, question_text, report_text
 
-# what the program heads the words of a reviewer with
-REVIEWERS = {"pairs": "Reviewer", "whole": "plain::Reviewer"}
+# the line before what the program says of a log
+HEAD = "log"
 LOGS = 10_000
 AT_ONCE = 2_500
 # how many differences are made small and shown
@@ -80,19 +80,17 @@ def told(case):
 
 
 def run(program, cases):
-    """What the program says of each case: the lines of each reviewer."""
+    """What the program says of each case, line by line."""
     done = subprocess.run([program], input=b"".join(map(told, cases)), stdout=subprocess.PIPE, timeout=100)
-    said, first = [], next(iter(REVIEWERS))
+    said = []
     for line in done.stdout.decode().splitlines():
-        if line == first:
-            said.append({head: [] for head in REVIEWERS})
-        if line in REVIEWERS:
-            lines = said[-1][line]
+        if line == HEAD:
+            said.append([])
         else:
-            lines.append(line)
+            said[-1].append(line)
     if done.returncode != 0 or len(said) != len(cases):
         print("reviews: the program ended with status %d behind %d of %d logs" % (done.returncode, len(said), len(cases)))
-    return said + [{head: ["nothing"] for head in REVIEWERS}] * (len(cases) - len(said))
+    return said + [["nothing"]] * (len(cases) - len(said))
 
 
 def model(case):
@@ -101,7 +99,7 @@ def model(case):
     return review(log, trusted, valid) + questions(log)
 
 
-def smaller(program, case, head):
+def smaller(program, case):
     """The case without what isn't needed for the program to say something else than the model."""
     name, messages, trusted, valid = case
     parts = [("m", it) for it in messages] + [("t", it) for it in sorted(trusted)] + [("v", it) for it in sorted(valid)]
@@ -112,7 +110,7 @@ def smaller(program, case, head):
     at = 0
     while at < len(parts):
         fewer = of(parts[:at] + parts[at + 1:])
-        if run(program, [fewer])[0][head] != model(fewer):
+        if run(program, [fewer])[0] != model(fewer):
             del parts[at]
         else:
             at += 1
@@ -134,13 +132,12 @@ def compare(program, cases, reached):
         wanted = model(case)
         for line in wanted:
             reached[kind_of(line)] += 1
-        for head, reviewer in REVIEWERS.items():
-            if said[head] == wanted or failed >= SHOWN:
-                tell("%s on %s" % (reviewer, case[0]), wanted, said[head])
-            else:
-                less = smaller(program, case, head)
-                show(less)
-                tell("%s on %s" % (reviewer, case[0]), model(less), run(program, [less])[0][head])
+        if said == wanted or failed >= SHOWN:
+            tell("the review of " + case[0], wanted, said)
+        else:
+            less = smaller(program, case)
+            show(less)
+            tell("the review of " + case[0], model(less), run(program, [less])[0])
 
 
 def kind_of(line):

@@ -128,7 +128,7 @@ def fed(bench, timing):
 
 
 def reviewed(bench, timing, reviewed_by):
-    """What a whole review takes, of both reviewers, with its questions."""
+    """What a whole review takes, and with its questions."""
     for shape in (logs.signed, logs.equal, logs.one_hash, logs.sessions, logs.repeated, logs.spoilt,
                   logs.fragments_falling, logs.scattered, logs.stated, logs.far_apart):
         for count in (100, 2_000):
@@ -140,8 +140,8 @@ def reviewed(bench, timing, reviewed_by):
         for count in (100, 2_000):
             script = [b"t" + b"2009-05-03T14:00:39Z K S0VZ", *(b"m" + text for text in shape(count).messages), b"."]
             octets = frames(script)
-            peak = bench.peak([reviewed_by], octets, starts(b"pairs\n"))
-            bench.check("both reviewers of %s, %d" % (shape.__name__, count), peak, BUFFERS + 32 * len(octets))
+            peak = bench.peak([reviewed_by], octets, starts(b"log\n"))
+            bench.check("a review and its questions of %s, %d" % (shape.__name__, count), peak, BUFFERS + 32 * len(octets))
 
 
 # ---- damaged logs

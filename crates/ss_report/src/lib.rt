@@ -1,5 +1,5 @@
-//! The runs over a stored log: it is read to its end, and a text about it, or frames from it, are written whole; how
-//! the run ended; and the text of a review.
+//! The runs over a stored log: it is read to its end, and a text about it, or frames from it, are written whole; and how
+//! the run ended.
 #![tactic(auto)]
 
 mod fault;
@@ -10,7 +10,6 @@ mod log;
 mod notation;
 mod payloads;
 mod records;
-pub mod report_text;
 mod runs;
 mod texts;
 mod verdict;

@@ -1,5 +1,4 @@
 pub mod BearersWanted
-pub mod Bearings
 pub mod StoredRuns
 pub mod NeededHashes
 pub mod HashStarts

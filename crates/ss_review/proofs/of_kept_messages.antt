@@ -7,5 +7,4 @@ pub mod NotedBlocks
 pub mod StoredTold
 pub mod NotesTold
 pub mod PlacesRise
-pub mod Sorting
 pub mod NormalCounts

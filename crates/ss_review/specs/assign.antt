@@ -1,5 +1,4 @@
 pub mod Assigned
 pub mod Listing
 pub mod Assigning
-pub mod Bearing
 pub mod StoredHashes

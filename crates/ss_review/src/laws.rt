@@ -8,5 +8,4 @@ pub mod deliveries;
 pub mod kept;
 pub mod pinned;
 pub mod reports;
-pub mod reviewers;
 mod whole;

@@ -10,7 +10,6 @@ mod keep;
 pub mod laws;
 mod lists;
 mod pinned;
-pub mod plain;
 mod questions;
 mod report;
 mod review;

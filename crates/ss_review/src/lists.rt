@@ -1,3 +1,2 @@
 //! Lists that several subjects share.
-pub(crate) mod optional;
 pub(crate) mod ordered;

@@ -7,7 +7,7 @@ mod preparing;
 mod unwrapping;
 mod wrapping;
 
-pub use preparing::{needs_wrap, prepare};
+pub use preparing::needs_wrap;
 pub use ss_message::NoMemory;
-pub use unwrapping::{original, unwrapped};
+pub use unwrapping::original;
 pub use wrapping::wrap;

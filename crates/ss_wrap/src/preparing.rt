@@ -1,12 +1,9 @@
-//! What is signed for a message.
+//! Which messages are signed in a wrap.
 ghost use Rattle.std.specs.Prelude.{◌≡◌, IfOk};
-ghost use Rattle.ss_wrap.specs.Wrap.{needs_wrap, prepared};
+ghost use Rattle.ss_wrap.specs.Wrap.{needs_wrap};
 
 use crate::unwrapping::original;
-use crate::wrapping::wrap;
-use ss_block::Head;
-use ss_message::Stamp;
-use ss_octets::{Bytes, NoMemory};
+use ss_octets::NoMemory;
 use ss_origin::{OriginFault, plain_pri};
 use std::alloc::Global;
 
@@ -23,24 +20,5 @@ pub fn needs_wrap(alloc: Global, message: &[u8]) -> Result<bool, NoMemory>
             OriginFault::Memory => Err(NoMemory),
             _ => Ok(true),
         },
-    }
-}
-
-/// The message, or its wrap if it needs one.
-///
-/// Errs only if it runs out of memory, which is taken for the wrap, and for the elements of the message meanwhile.
-#[tactic(auto, unfolding(crate::specs::Wrap::prepared))]
-pub fn prepare(
-    alloc: Global,
-    head: &Head,
-    stamp: Option<Stamp>,
-    message: Bytes,
-) -> Result<Bytes, NoMemory>
-    ensures { IfOk result (λ t. t ≡ prepared head.now stamp message) }
-{
-    if needs_wrap(alloc, message.as_slice())? {
-        wrap(alloc, head, stamp, message.as_slice())
-    } else {
-        Ok(message)
     }
 }

@@ -3,7 +3,7 @@ ghost use Rattle.std.specs.Prelude.{◌≡◌, Some, IfOk};
 ghost use Rattle.std.specs.Option.{option_copied};
 ghost use Rattle.ss_message.specs.Layout.{field_of, layout_of, value_of};
 ghost use Rattle.ss_message.specs.Places.{PartsLie};
-ghost use Rattle.ss_wrap.specs.Wrap.{has_wrap_id, after_mark, inner_of, original, unwrapped};
+ghost use Rattle.ss_wrap.specs.Wrap.{has_wrap_id, after_mark, inner_of, original};
 
 use crate::wrapping::{MARK, MSGID};
 use ss_message::{Fault, Message, parse};
@@ -55,19 +55,5 @@ pub fn original<'a>(alloc: Global, text: &'a [u8]) -> Result<Option<&'a [u8]>, N
         Ok(message) => Ok(inner(&message)),
         Err(Fault::Bad { .. }) => Ok(None),
         Err(Fault::Memory) => Err(NoMemory),
-    }
-}
-
-/// The message for which a text was signed: what is in it if it has the form of a wrap, else the text itself. So it is
-/// for texts of `prepare`, among which are the wraps of messages in the form of a wrap.
-///
-/// Errs only if it runs out of memory, which is taken for the elements of the message.
-#[tactic(auto, unfolding(crate::specs::Wrap::unwrapped))]
-pub fn unwrapped<'a>(alloc: Global, text: &'a [u8]) -> Result<&'a [u8], NoMemory>
-    ensures { IfOk result (λ message. message.now ≡ unwrapped text.now) }
-{
-    match original(alloc, text)? {
-        Some(octets) => Ok(octets),
-        None => Ok(text),
     }
 }

@@ -2,9 +2,8 @@
 use crate::sealing::{Lenient, Seal, answer};
 use crate::settings::{Groups, Setting, config, payload};
 use ss_block::{Alg, Payload};
-use ss_octets::Bytes;
 use ss_origin::{Config, Counters, Emitted, OriginFault, Originator, Sealer, Seals};
-use ss_wrap::{original, prepare};
+use ss_wrap::{original, wrap};
 use std::alloc::Global;
 use std::test::Fail;
 
@@ -70,8 +69,8 @@ fn a_message_is_sent(rt: HostRuntime) -> Result<(), Fail> {
 fn a_message_is_wrapped(rt: HostRuntime) -> Result<(), Fail> {
     let alloc = rt.alloc();
     let head = config(alloc, &SETTING)?.ok_or("a configuration")?.head;
-    let message = Bytes::from_vec(Vec::from_slice(alloc, b"hello")?);
-    let text = prepare(alloc, &head, None, message)?;
+    let message = b"hello";
+    let text = wrap(alloc, &head, None, message)?;
     let found = original(alloc, text.as_slice())?;
     let (text, found) = (text.as_slice(), found.unwrap_or(b""));
     assert!(rt; text == b"<13>1 - h s - wrapped - |hello".as_slice());

@@ -6,8 +6,6 @@ mod asking;
 #[cfg(test)]
 mod book;
 #[cfg(test)]
-mod changes;
-#[cfg(test)]
 mod deliveries;
 #[cfg(test)]
 mod ends;

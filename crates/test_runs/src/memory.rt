@@ -3,53 +3,106 @@
 use crate::asking::{Asked, ROWS, Row, is_asked, is_signed};
 use crate::book::{PAYLOAD, SIGN, Yes, no_counters};
 use crate::inspections::LOG;
-use crate::rows::REPORT;
 use crate::run::Done;
 use crate::stops::MEMORY;
 use crate::texts::{Text, octets_of};
-use ss_block::{Group, Session};
-use ss_frame::{Limits, Tail, Watched};
+use ss_block::{Group, Session, Spoil};
+use ss_frame::{Limits, Watched};
 use ss_message::Field;
-use ss_octets::{Bytes, NoMemory};
-use ss_report::report_text::report_text;
+use ss_octets::Bytes;
 use ss_report::{
     Beside, Detail, Notation, ReadOptions, ReportForm, Run, RunFault, Verdict, run_counters,
     run_review_as,
 };
 use ss_review::{
-    AskedSession, AskedSessions, Counter, Counts, Question, Questioner, Questions, Report,
-    ReviewFault, Reviewer,
+    AskedSession, AskedSessions, Counter, Counts, Entry, Question, Questioner, Questions, Report,
+    ReviewFault, Reviewer, SessionReport, SessionState, SpoiltPlace, Why,
 };
 use std::alloc::{AllocError, Global};
 use std::process::Abort;
 use test_devices::{Paper, Pieces};
 
-/// A log, and the report on it.
-const REVIEWED: [(&[Text], &[u8]); 3] = [
-    (
-        &[Text::Short, Text::Long, Text::Certificate, Text::Both],
-        REPORT,
-    ),
-    (
-        &[
+/// The RSID of a joined session, and the entries of its one group.
+struct Listing {
+    rsid: u64,
+    entries: &'static [Entry],
+}
+
+/// A log, and what is reported of it: no message is unlisted, and each block is verified.
+struct Reviewed {
+    log: &'static [Text],
+    sessions: &'static [Listing],
+    spoilt: &'static [SpoiltPlace],
+    count: u32,
+}
+
+const REVIEWED: [Reviewed; 3] = [
+    Reviewed {
+        log: &[Text::Short, Text::Long, Text::Certificate, Text::Both],
+        sessions: &[Listing {
+            rsid: 1,
+            entries: &[
+                Entry::Listed {
+                    number: 1,
+                    place: 0,
+                },
+                Entry::Listed {
+                    number: 2,
+                    place: 1,
+                },
+            ],
+        }],
+        spoilt: &[],
+        count: 4,
+    },
+    Reviewed {
+        log: &[
             Text::Short,
             Text::Back,
             Text::Front,
             Text::ShortAlone,
             Text::PastLastNumber,
         ],
-        b"session h s - 1 joined\nok h s - 1 0 0 1 0\nspoilt 4 S9\nend 5\n",
-    ),
-    (
-        &[
+        sessions: &[Listing {
+            rsid: 1,
+            entries: &[Entry::Listed {
+                number: 1,
+                place: 0,
+            }],
+        }],
+        spoilt: &[SpoiltPlace {
+            place: 4,
+            cause: Spoil::LastNumber,
+        }],
+        count: 5,
+    },
+    Reviewed {
+        log: &[
             Text::Short,
             Text::Certificate,
             Text::SecondSession,
             Text::ShortBySha256,
             Text::ShortOfSecondSession,
         ],
-        b"session h s - 1 joined\nok h s - 1 0 0 1 0\nsession h s - 2 joined\ngap h s - 2 0 0 1 lost\nend 5\n",
-    ),
+        sessions: &[
+            Listing {
+                rsid: 1,
+                entries: &[Entry::Listed {
+                    number: 1,
+                    place: 0,
+                }],
+            },
+            Listing {
+                rsid: 2,
+                entries: &[Entry::Gap {
+                    number: 1,
+                    why: Why::Lost,
+                }],
+            },
+        ],
+        spoilt: &[],
+        count: 5,
+    },
 ];
 
 /// Feeds a message, and once more where memory ran out and left what is kept as it was.
@@ -85,17 +138,37 @@ fn questions(reviewer: &Reviewer) -> Result<Questions, ReviewFault> {
     }
 }
 
-fn text_of(alloc: Global, report: &Report) -> Result<Bytes, NoMemory> {
-    match report_text(alloc, report, Tail::Clean) {
-        Err(_) => report_text(alloc, report, Tail::Clean),
-        text => text,
-    }
+fn is_session(session: &SessionReport, wanted: &Listing) -> bool {
+    let [group] = session.groups.as_slice() else {
+        return false;
+    };
+    session.session.rsid == wanted.rsid
+        && session.state == SessionState::Joined
+        && group.entries.as_slice() == wanted.entries
 }
 
-fn reports(alloc: Global, log: &[Text], text: &[u8]) -> Result<bool, ReviewFault> {
-    let reviewer = reviewer_of(alloc, log)?;
+fn are_sessions(sessions: &[SessionReport], wanted: &[Listing]) -> bool {
+    for (session, wanted) in sessions.iter().zip(wanted) {
+        if !is_session(session, wanted) {
+            return false;
+        }
+    }
+    sessions.len() == wanted.len()
+}
+
+/// Whether the report is the one of the row.
+fn is_report(report: &Report, wanted: &Reviewed) -> bool {
+    report.unlisted.as_slice().is_empty()
+        && report.refused.as_slice().is_empty()
+        && report.spoilt.as_slice() == wanted.spoilt
+        && report.count == wanted.count
+        && are_sessions(report.sessions.as_slice(), wanted.sessions)
+}
+
+fn reports(alloc: Global, wanted: &Reviewed) -> Result<bool, ReviewFault> {
+    let reviewer = reviewer_of(alloc, wanted.log)?;
     let report = finish(&reviewer)?;
-    Ok(text_of(alloc, &report)?.as_slice() == text)
+    Ok(is_report(&report, wanted))
 }
 
 /// Whether the questions are those, in that order.
@@ -168,8 +241,8 @@ fn asks_by_session(alloc: Global, row: &Row) -> Result<bool, ReviewFault> {
 /// The calls on a reviewer that is there go on. A questioner is let go when it is asked, and is made again.
 #[test]
 fn goes_on_after_want_of_memory(rt: HostRuntime) {
-    for (log, text) in &REVIEWED {
-        assert_eq!(rt; reports(rt.alloc(), log, text), Ok(true), "{log:?}");
+    for row in &REVIEWED {
+        assert_eq!(rt; reports(rt.alloc(), row), Ok(true), "{:?}", row.log);
     }
     for row in &ROWS[..5] {
         assert_eq!(rt; asks(rt.alloc(), row), Ok(true), "{}", row.name);

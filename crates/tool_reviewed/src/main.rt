@@ -7,8 +7,8 @@
 //!   payload and octets stay for the next signature.
 //! - `.`: the end of a log; the next frame begins another one.
 //!
-//! For each log a line `pairs` and what `Reviewer` gives, and a line `whole` and what `plain::Reviewer` gives: the
-//! report and the questions. Octets are hexadecimal, and an absent field is `-`.
+//! For each log a line `log`, and then the report and the questions of a `Reviewer`. Octets are hexadecimal, and an
+//! absent field is `-`.
 #![tactic(auto)]
 
 mod answers;
@@ -20,25 +20,16 @@ use case::Case;
 use frames::split_frame;
 use printing::{print_questions, print_report};
 use ss_frame::MOST_MESSAGES;
-use ss_review::{Questions, Report, ReviewFault, Reviewer, plain};
+use ss_review::{Questions, Report, ReviewFault, Reviewer};
 use std::io;
 use std::io::Read;
 
 /// The report and the questions of a reviewer, or why it gives none.
 type Reviewed = Result<(Report, Questions), ReviewFault>;
 
-/// Reviews a log by the hashes of its messages.
-fn review_pairs<R: AllocGlobal>(rt: &R, case: &Case<'_>) -> Reviewed {
+/// The report on a log, and its questions.
+fn reviewed<R: AllocGlobal>(rt: &R, case: &Case<'_>) -> Reviewed {
     let mut reviewer = Reviewer::new(rt.alloc(), MOST_MESSAGES);
-    for message in case.messages.as_slice() {
-        reviewer.feed(message)?;
-    }
-    Ok((reviewer.finish(&case.answers)?, reviewer.questions()?))
-}
-
-/// Reviews a log by its whole messages.
-fn review_whole<R: AllocGlobal>(rt: &R, case: &Case<'_>) -> Reviewed {
-    let mut reviewer = plain::Reviewer::new(rt.alloc(), MOST_MESSAGES);
     for message in case.messages.as_slice() {
         reviewer.feed(message)?;
     }
@@ -61,10 +52,8 @@ fn print_reviewed<R: Print + AllocGlobal>(rt: &R, reviewed: &Reviewed) -> io::Re
 
 /// Reviews a log.
 fn review<R: Print + AllocGlobal>(rt: &R, case: &Case<'_>) -> io::Result<()> {
-    println!(rt; "pairs")?;
-    print_reviewed(rt, &review_pairs(rt, case))?;
-    println!(rt; "whole")?;
-    print_reviewed(rt, &review_whole(rt, case))
+    println!(rt; "log")?;
+    print_reviewed(rt, &reviewed(rt, case))
 }
 
 /// Reviews each log of the input.

@@ -1,6 +1,6 @@
 -- The bearers that keys want: each is the first message with its two hashes, so their places tell their hashes apart.
 use Rattle.std.proofs.Common.{◌≡◌, ◌==◌, ◌+◌, Bool, true, false, cond, List, [], ◌∷◌, map, refl, sym, ap, ◌∙◌, arith}
-use Rattle.std.specs.Prelude.{Option, Some, None, option_map, find, filter, count_by, slice_get}
+use Rattle.std.specs.Prelude.{Option, Some, None, option_map, find, count_by, slice_get}
 use Rattle.std.specs.Ordering.{nat_cmp}
 use Rattle.std.specs.List.Sorted.{IsStrictlySortedBy}
 use Rattle.std.proofs.lemmas.Bool.{eqb-true, eq-eqb, false_from_ne_true}
@@ -17,17 +17,6 @@ pub pair_is : (ms : List NormalMessage) (h : Option Hash) → pair_wanted ms h �
 unfolding pair_of_bearer
 pair_is ms None = refl
 pair_is ms (Some h) = refl
-
--- what is found first is the first of all that pass
-first_at : (p : NormalMessage → Bool) (ms : List NormalMessage) → slice_get (map (λ (m : NormalMessage). m.place) (filter p ms)) 0 ≡ option_map (λ m. m.place) (find p ms)
-first_at p [] = refl
-first_at p (m ∷ ms) = by (p m) (first_at p ms)
-  where
-    by : (b : Bool)
-        → slice_get (map (λ (m : NormalMessage). m.place) (filter p ms)) 0 ≡ option_map (λ m. m.place) (find p ms)
-        → slice_get (map (λ (m : NormalMessage). m.place) (cond b (m ∷ filter p ms) (filter p ms))) 0 ≡ option_map (λ m. m.place) (cond b (Some m) (find p ms))
-    by true e = refl
-    by false e = e
 
 module _ (ms : List NormalMessage) (up : IsStrictlySortedBy nat_cmp (map (λ (m : NormalMessage). m.place) ms)) where
   one_at_place : (m n : NormalMessage) → Has ms m → Has ms n → m.place ≡ n.place → m ≡ n
@@ -49,12 +38,7 @@ module _ (ms : List NormalMessage) (up : IsStrictlySortedBy nat_cmp (map (λ (m 
       finds (λ k. same_pair k.pair m.pair) ms m up bearer.0 (same_itself m.pair)
       (λ n i t. find_least (λ k. has_hash h k.pair) ms m up e n i (ap (has_hash h) (same_pair-is n.pair m.pair t) ∙ bearer.1))
 
-  -- so the places with its hashes begin with its own
-  pub begins : (h : Option Hash) (m : NormalMessage) → bearer_wanted ms h ≡ Some m → slice_get (places_with ms m.pair) 0 ≡ Some m.place
-  unfolding places_with
-  begins h m e = first_at (λ k. same_pair k.pair m.pair) ms ∙ ap (option_map (λ (k : NormalMessage). k.place)) (wanted_first h m e)
-
-  -- and another bearer at its place is another with its hashes
+  -- another bearer at its place is another with its hashes
   at_one : (m n : NormalMessage) → IsFirst m → IsFirst n → (n.place == m.place) ≡ same_pair n.pair m.pair
   at_one m n f g = by (same_pair n.pair m.pair) refl
     where

@@ -1,16 +1,14 @@
--- Counts over a list: of one more element, of those below a key in a list that rises, and of wanted bearers.
-use Rattle.std.proofs.Common.{◌≡◌, ℕ, ◌+◌, ◌<◌, inl, length, get_or, take, drop, Bool, true, false, cond, ◌&&◌, ◌==◌, List, [], ◌∷◌, ◌++◌, map, refl, sym, ap, ◌∙◌, subst, arith}
-use Rattle.std.specs.Prelude.{Option, Some, None, unwrap_or, count_by, slice_get}
+-- Counts over a list: of one more element, of those below a key in a list that rises, and of wanted pairs.
+use Rattle.std.proofs.Common.{◌≡◌, ℕ, ◌+◌, ◌<◌, inl, length, get_or, take, drop, Bool, true, false, cond, ◌&&◌, List, [], ◌∷◌, ◌++◌, map, refl, sym, ap, ◌∙◌, subst, arith}
+use Rattle.std.specs.Prelude.{Option, Some, None, count_by, slice_get}
 use Rattle.std.specs.Str.{bytes_eq}
 use Rattle.std.specs.declared.cmp.Ordering.{Ordering}
 use Rattle.std.specs.declared.cmp.Ordering.TheVariants.{Less}
 use Rattle.std.specs.Ordering.{nat_cmp, is_lt, is_eq, ordering_reverse}
 use Rattle.std.specs.Cmp.Lexicographic.{slice_cmp}
-use Rattle.std.specs.Cmp.{IsTotalOrder, Equal-is, tied_then, unsigned_tied}
-use Rattle.std.proofs.lemmas.Bool.{eqb-true}
+use Rattle.std.specs.Cmp.{IsTotalOrder, Equal-is, tied_then}
 use Rattle.std.specs.List.{AllByRecursion}
 use Rattle.std.specs.List.Sorted.{IsStrictlySortedBy}
-use Rattle.std.specs.BTreeMap as tree
 use Rattle.std.proofs.lemmas.Cmp.{tied_itself}
 use Rattle.std.proofs.lemmas.List.{map-append, append_assoc, at_drop_more, map_more}
 use Rattle.std.proofs.lemmas.List.Sums.{sum_by-append}
@@ -21,7 +19,7 @@ use Rattle.ss_review.specs.declared.keep.message.NormalMessage.{NormalMessage}
 use Rattle.ss_block.specs.Order.{pair_cmp}
 use Rattle.ss_review.specs.announced.Announced.{Key, Row, key_cmp, keys}
 use Rattle.ss_review.specs.assign.Assigned.{same_pair, is_pair, places_with, wanted, rank, place_of, assigned}
-use Rattle.ss_review.specs.assign.Assigning.{pair_wanted, pairs_wanted, is_at, place_after, assigned_after, assigned_all, count_of, Counts}
+use Rattle.ss_review.specs.assign.Assigning.{pair_wanted, pairs_wanted, place_after, assigned_after, assigned_all}
 use Rattle.ss_review.proofs.of_numbers.Announcements.{keys-rise}
 use Rattle.ss_octets.proofs.Members.{has-append_right, all-has}
 use Rattle.ss_block.specs.OrderLaws.{pair_cmp_exact, pair_cmp_total}
@@ -85,20 +83,6 @@ same_itself p = sym (is_eq-pair_cmp p p) ∙ ap is_eq (tied_itself pair_cmp_tota
 
 pub same_pair-is : (p q : HashPair) → same_pair p q ≡ true → p ≡ q
 same_pair-is p q e = pair_cmp_exact p q ((Equal-is (pair_cmp p q)).0 (is_eq-pair_cmp p q ∙ e))
-
--- the map has one more of a bearer
-pub counted : (m n : tree.BTreeMap ℕ ℕ) (before : List (Option NormalMessage)) (b : NormalMessage)
-    → Counts m before
-    → ((place : ℕ) → tree.get nat_cmp n place ≡ cond (is_eq (nat_cmp b.place place)) (Some (count_of m b.place + 1)) (tree.get nat_cmp m place))
-    → Counts n (before ++ Some b ∷ [])
-counted m n before b c u q =
-    ap (λ v. unwrap_or v 0) (u q ∙ ap (λ t. cond t (Some (count_of m b.place + 1)) (tree.get nat_cmp m q)) (unsigned_tied b.place q))
-    ∙ by (b.place == q) refl
-    ∙ sym (count_by-push (is_at q) before (Some b))
-  where
-    by : (t : Bool) → (b.place == q) ≡ t → unwrap_or (cond t (Some (count_of m b.place + 1)) (tree.get nat_cmp m q)) 0 ≡ count_by (is_at q) before + cond t 1 0
-    by true e = ap (λ r. count_of m r + 1) (eqb-true b.place q e) ∙ ap (λ k. k + 1) (c q)
-    by false e = c q ∙ (let r : count_by (is_at q) before + 0 ≡ count_by (is_at q) before = omega arith in sym r)
 
 -- ---- all keys at once
 

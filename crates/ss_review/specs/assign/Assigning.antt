@@ -1,8 +1,6 @@
 -- The places of all announced keys at once, from what each is announced with.
-use Rattle.std.specs.Prelude.{◌≡◌, ◌==◌, ℕ, Bool, false, List, unwrap_or, [], ◌∷◌, ◌++◌, map, find, count_by, slice_get}
+use Rattle.std.specs.Prelude.{◌==◌, ℕ, Bool, false, List, [], ◌∷◌, ◌++◌, map, find, count_by, slice_get}
 use Rattle.std.specs.Prelude.{Option, Some, None, option_and_then}
-use Rattle.std.specs.Ordering.{nat_cmp}
-use Rattle.std.specs.BTreeMap as tree
 use Rattle.ss_block.specs.declared.hash.Hash.{Hash}
 use Rattle.ss_block.specs.declared.hash.HashPair.{HashPair}
 use Rattle.ss_review.specs.declared.keep.message.NormalMessage.{NormalMessage}
@@ -37,11 +35,3 @@ bearers_wanted ms hs = map (bearer_wanted ms) hs
 abbrev pub is_at : ℕ → Option NormalMessage → Bool
 is_at place None = false
 is_at place (Some m) = m.place == place
-
--- how often the place of a bearer was counted
-abbrev pub count_of : tree.BTreeMap ℕ ℕ → ℕ → ℕ
-count_of taken place = unwrap_or (tree.get nat_cmp taken place) 0
-
--- each bearer's place was counted as often as the bearer was wanted
-abbrev pub Counts : tree.BTreeMap ℕ ℕ → List (Option NormalMessage) → Type 0
-Counts taken before = (place : ℕ) → count_of taken place ≡ count_by (is_at place) before

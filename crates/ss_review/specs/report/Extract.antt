@@ -1,5 +1,5 @@
--- The messages that a report lists.
-use Rattle.std.specs.Prelude.{ℕ, List, filter_map, flat_map, slice_get, Option, Some, None}
+-- The places of the messages that a report lists, in its order.
+use Rattle.std.specs.Prelude.{ℕ, List, filter_map, flat_map, Option, Some, None}
 use Rattle.ss_review.specs.declared.report.entry.Entry.{Entry}
 use Rattle.ss_review.specs.declared.report.entry.Entry.TheVariants as entry
 use Rattle.ss_review.specs.declared.report.report.Report.{Report}
@@ -11,7 +11,3 @@ place_listed (entry.Hole first last) = None
 
 abbrev pub listed_places : Report → List ℕ
 listed_places r = flat_map (λ s. flat_map (λ g. filter_map place_listed g.entries) s.groups) r.sessions
-
--- the listed messages in the order of the report
-unfoldable pub extract : List (List ℕ) → Report → List (List ℕ)
-extract log r = filter_map (slice_get log) (listed_places r)
