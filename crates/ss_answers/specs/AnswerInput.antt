@@ -75,6 +75,20 @@ pub record ArePayloadsOfFile (payloads : List (List ℕ)) : Type 0 where
   pub of_file : AreOfFile answers
   pub are : payloads ≡ payloads_of answers
 
+-- The octets that an opened file holds, where they are known, give these answers. How many of them are left is open.
+abbrev pub AreHeld : Option (List ℕ) → List Answer → Type 0
+AreHeld held answers = (left : Option (List ℕ)) × AreRead held left 4294967295 answers
+
+-- they give this fault
+abbrev pub IsHeldFault : Option (List ℕ) → AnswerFault → Type 0
+IsHeldFault held fault = (left : Option (List ℕ)) × IsAnswerFault held left 4294967295 fault
+
+-- the payloads are those that the lines of such a file trust
+pub record ArePayloadsHeld (held : Option (List ℕ)) (payloads : List (List ℕ)) : Type 0 where
+  pub answers : List Answer
+  pub held : AreHeld held answers
+  pub are : payloads ≡ payloads_of answers
+
 -- what a fault says about a file
 abbrev pub IsFileFault : AnswerFault → Type 0
 IsFileFault (BadLine line) = (text : List ℕ) × (length text < 2 ^ 32) × HasFirstBadLine text line

@@ -1,5 +1,5 @@
 -- What reading a file of counters takes from its reader, and when each fault comes.
-use Rattle.std.specs.Prelude.{ℕ, ◌^◌, ◌<◌, Bool, true, false, List, length, Option, Result, Ok, Err}
+use Rattle.std.specs.Prelude.{ℕ, ◌^◌, ◌<◌, Bool, true, false, List, length, Option, None, Some, Result, Ok, Err, nat_lt}
 use Rattle.ss_review.specs.declared.counted.counter.Counter.{Counter}
 use Rattle.ss_answers.specs.declared.counters.fault.CounterFault.{CounterFault}
 use Rattle.ss_answers.specs.declared.counters.fault.CounterFault.TheVariants.{BadLine, Read, TooBig, NotWhole, Memory}
@@ -68,6 +68,19 @@ pub record AreCountersOfFile (counters : List Counter) : Type 0 where
   pub text : List ℕ
   pub within : length text < 2 ^ 32
   pub has : HasCounters text counters
+
+-- The octets that an opened file holds, where they are known, give these counters. How many of them are left is open.
+abbrev pub AreHeldCounters : Option (List ℕ) → List Counter → Type 0
+AreHeldCounters held counters = (left : Option (List ℕ)) × AreCounters held left 4294967295 counters
+
+-- they give this fault
+abbrev pub IsHeldCounterFault : Option (List ℕ) → CounterFault → Type 0
+IsHeldCounterFault held fault = (left : Option (List ℕ)) × IsCounterFault held left 4294967295 fault
+
+-- a file is known to have more octets than allowed
+abbrev pub is_too_long : Option ℕ → Bool
+is_too_long None = false
+is_too_long (Some length) = nat_lt 4294967295 length
 
 -- what a fault says about a file
 abbrev pub IsCountersFileFault : CounterFault → Type 0

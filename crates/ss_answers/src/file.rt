@@ -1,8 +1,8 @@
 //! Reading a file of answers.
-ghost use Rattle.std.specs.Prelude.{◌≡◌, false, IfOk, IfErr};
+ghost use Rattle.std.specs.Prelude.{◌≡◌, false, Err, IfOk, IfErr, MatchResult};
 ghost use Rattle.ss_frame.specs.Watched.{has_failed, inner_of};
 ghost use Rattle.ss_answers.specs.AnswerInput.{AreOfFile, ArePayloadsOfFile, AreRead, IsAnswerFault, IsFileFault};
-ghost use Rattle.ss_answers.specs.AnswerInput.{failed_read};
+ghost use Rattle.ss_answers.specs.AnswerInput.{AreHeld, ArePayloadsHeld, IsHeldFault, failed_read};
 
 use crate::fault::AnswerFault;
 use crate::reading::read_lines;
@@ -10,9 +10,9 @@ use crate::table::Answers;
 use ss_frame::Watched;
 use ss_octets::Bytes;
 use std::alloc::Global;
-use std::fs;
 use std::io::Read;
 use std::rt::Files;
+use std::{fs, io};
 
 /// The answers that a reader gives, in at most `max` octets. All is read before a bad line is answered, at most one
 /// octet more than `max`, and the reader is one that hasn't failed yet. The text is never held whole.
@@ -49,11 +49,7 @@ pub fn open_answers<R: Files + AllocGlobal>(rt: &R, path: &str) -> Result<Answer
     ensures ok { IfOk result AreOfFile }
     ensures err { IfErr result IsFileFault }
 {
-    let Ok(file) = fs::open(rt, path) else {
-        return Err(AnswerFault::Read);
-    };
-    let mut reader = Watched::new(file);
-    read_file(rt.alloc(), &mut reader)
+    answers_from(rt.alloc(), fs::open(rt, path))
 }
 
 /// The payloads that the lines `trust PAYLOAD` of an answers file trust, each once.
@@ -65,8 +61,38 @@ pub fn open_payloads<R: Files + AllocGlobal>(rt: &R, path: &str) -> Result<Vec<B
     ensures ok { IfOk result (λ payloads. ArePayloadsOfFile payloads.items) }
     ensures err { IfErr result IsFileFault }
 {
-    let answers = open_answers(rt, path)?;
-    match answers.payloads(rt.alloc()) {
+    payloads_from(rt.alloc(), fs::open(rt, path))
+}
+
+/// The answers of a file that was opened or couldn't be, as `open_answers` gives them.
+pub fn answers_from<F: Read + Drop>(
+    alloc: Global,
+    opened: io::Result<F>,
+) -> Result<Answers, AnswerFault>
+    ensures unopened { IfErr opened.entry (λ _. result ≡ Err AnswerFault.Read) }
+    ensures opened { IfOk opened.entry (λ file. MatchResult result
+        (AreHeld (F.remaining file))
+        (IsHeldFault (F.remaining file))) }
+{
+    let Ok(file) = opened else {
+        return Err(AnswerFault::Read);
+    };
+    let mut reader = Watched::new(file);
+    read_file(alloc, &mut reader)
+}
+
+/// The payloads that a file trusts which was opened or couldn't be, as `open_payloads` gives them.
+pub fn payloads_from<F: Read + Drop>(
+    alloc: Global,
+    opened: io::Result<F>,
+) -> Result<Vec<Bytes>, AnswerFault>
+    ensures unopened { IfErr opened.entry (λ _. result ≡ Err AnswerFault.Read) }
+    ensures opened { IfOk opened.entry (λ file. MatchResult result
+        (λ payloads. ArePayloadsHeld (F.remaining file) payloads.items)
+        (IsHeldFault (F.remaining file))) }
+{
+    let answers = answers_from(alloc, opened)?;
+    match answers.payloads(alloc) {
         Ok(payloads) => Ok(payloads),
         Err(_) => Err(AnswerFault::Memory),
     }

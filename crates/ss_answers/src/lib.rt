@@ -19,10 +19,10 @@ mod seals;
 mod table;
 
 pub use counters::fault::CounterFault;
-pub use counters::file::{open_counters, read_counters};
+pub use counters::file::{counters_from, open_counters, read_counters};
 pub use counters::start::start_of;
 pub use counters::start_fault::StartFault;
 pub use fault::AnswerFault;
-pub use file::{open_answers, open_payloads, read_answers};
+pub use file::{answers_from, open_answers, open_payloads, payloads_from, read_answers};
 pub use seals::GivenSeals;
 pub use table::Answers;

@@ -1,8 +1,9 @@
 //! Reading a file of counters.
-ghost use Rattle.std.specs.Prelude.{◌≡◌, false, IfOk, IfErr};
+ghost use Rattle.std.specs.Prelude.{◌≡◌, false, Err, IfOk, IfErr, MatchBool, MatchResult};
 ghost use Rattle.ss_frame.specs.Watched.{has_failed, inner_of};
 ghost use Rattle.ss_answers.specs.CounterInput.{AreCounters, AreCountersOfFile, IsCounterFault};
-ghost use Rattle.ss_answers.specs.CounterInput.{IsCountersFileFault, read_failed};
+ghost use Rattle.ss_answers.specs.CounterInput.{AreHeldCounters, IsCountersFileFault, IsHeldCounterFault};
+ghost use Rattle.ss_answers.specs.CounterInput.{is_too_long, read_failed};
 
 use crate::counters::fault::CounterFault;
 use crate::counters::lines::read_counter_lines;
@@ -11,10 +12,10 @@ use ss_frame::Watched;
 use ss_octets::List;
 use ss_review::Counters;
 use std::alloc::Global;
-use std::fs;
 use std::fs::OpenFile;
 use std::io::Read;
 use std::rt::Files;
+use std::{fs, io};
 
 /// The most octets that a file may have.
 const MOST_OCTETS: u32 = u32::MAX;
@@ -54,17 +55,44 @@ pub fn open_counters<R: Files + AllocGlobal>(rt: &R, path: &str) -> Result<Count
     ensures ok { IfOk result AreCountersOfFile }
     ensures err { IfErr result IsCountersFileFault }
 {
-    let Ok(file) = fs::open(rt, path) else {
+    let opened = fs::open(rt, path);
+    let length = known_length(&opened);
+    counters_from(rt.alloc(), opened, length)
+}
+
+/// How many octets a file has, where that is known.
+fn known_length<F: OpenFile>(opened: &io::Result<F>) -> Option<u64> {
+    let Ok(file) = opened else {
+        return None;
+    };
+    match file.metadata() {
+        Ok(metadata) => Some(metadata.len()),
+        Err(_) => None,
+    }
+}
+
+/// The counters of a file that was opened or couldn't be, as `open_counters` gives them. `length` is how many octets it
+/// has, where that is known: a file that is too long isn't read.
+pub fn counters_from<F: Read + Drop>(
+    alloc: Global,
+    opened: io::Result<F>,
+    length: Option<u64>,
+) -> Result<Counters, CounterFault>
+    ensures unopened { IfErr opened.entry (λ _. result ≡ Err CounterFault.Read) }
+    ensures opened { IfOk opened.entry (λ file. MatchBool (is_too_long length)
+        (result ≡ Err CounterFault.TooBig)
+        (MatchResult result (AreHeldCounters (F.remaining file)) (IsHeldCounterFault (F.remaining file)))) }
+{
+    let Ok(file) = opened else {
         return Err(CounterFault::Read);
     };
-    // A file that is known to be too long isn't read.
-    if let Ok(metadata) = file.metadata()
-        && metadata.len() > MOST_OCTETS as u64
+    if let Some(length) = length
+        && length > MOST_OCTETS as u64
     {
         return Err(CounterFault::TooBig);
     }
     let mut reader = Watched::new(file);
-    read_file(rt.alloc(), &mut reader)
+    read_file(alloc, &mut reader)
 }
 
 /// The counters that a file gives.
