@@ -1,6 +1,6 @@
 -- The questions about sessions that share their payloads.
 use Rattle.std.proofs.Common.{◌≡◌, List, [], ◌∷◌, ◌++◌, map, filter, refl, ap, ◌∙◌, ℕ}
-use Rattle.std.specs.Prelude.{Result, Ok, Err}
+use Rattle.std.specs.Prelude.{Option, Some, None, Result, Ok, Err}
 use Rattle.std.specs.List.{flat_map}
 use Rattle.std.proofs.lemmas.List.{append-nil}
 use Rattle.std.proofs.lemmas.List.Concat.{flat_map-append}
@@ -11,8 +11,9 @@ use Rattle.ss_review.specs.keep.BlockMessage.{BlockMessage}
 use Rattle.ss_review.specs.declared.questions.question.Question.TheVariants as question
 use Rattle.ss_review.specs.sessions.Sessions.{sessions, of_session}
 use Rattle.ss_review.specs.sessions.Payloads.{certificates, stated_payload}
-use Rattle.ss_review.specs.pinned.Pinned.{asked_pinned, is_candidate, pinned_questions, pinned_sessions, session_pinned}
-use Rattle.ss_review.specs.questions.Questions.{asked, asked_block, asked_session, asked_sessions, question_under, questions, session_questions, questions_shared}
+use Rattle.ss_review.specs.pinned.Pinned.{asked_pinned, is_candidate, pinned_questions, pinned_sessions, questions_by, session_pinned, sessions_by}
+use Rattle.ss_review.specs.questions.Questions.{asked, asked_block, asked_session, asked_sessions, needed, question_under, questions, session_questions, questions_shared}
+use Rattle.ss_review.proofs.of_questions.NeededBlocks.{same_pinned, same_sessions}
 
 flat_map-flat_map : {X Y Z : Type 0} (g : Y → List Z) (f : X → List Y) (xs : List X) → flat_map g (flat_map f xs) ≡ flat_map (λ x. flat_map g (f x)) xs
 flat_map-flat_map g f [] = refl
@@ -48,6 +49,16 @@ unfolding questions_shared pinned_sessions pinned_questions
 pinned_shared ps bs =
     flat_map-flat_map session_questions (λ s. session_pinned ps s (of_session bs s)) (sessions bs)
     ∙ (λ i. flat_map (λ s. pinned_shared_at ps s (of_session bs s) i) (sessions bs))
+
+-- the same by the payloads that are given, or without any
+pub shared_by : (known : Option (List (List ℕ))) (bs : List BlockMessage) → questions_shared (sessions_by known bs) ≡ questions_by known bs
+shared_by None bs = sessions_shared bs
+shared_by (Some ps) bs = pinned_shared ps bs
+
+-- and by these, blocks of which the same is needed are asked about alike
+pub same_by : (known : Option (List (List ℕ))) (bs ds : List BlockMessage) → map needed bs ≡ map needed ds → sessions_by known bs ≡ sessions_by known ds
+same_by None bs ds e = same_sessions bs ds e
+same_by (Some ps) bs ds e = same_pinned ps bs ds e
 
 -- where none is known, no more is asked
 pub none_known : (bs : List BlockMessage) → pinned_sessions [] bs ≡ asked_sessions bs

@@ -1,9 +1,9 @@
 //! What a review asks of a signature scheme (RFC 5848, section 7).
-ghost use Rattle.std.specs.Prelude.{◌≡◌, ◌++◌, map, flat_map, Ok, IfOk, OnOk};
+ghost use Rattle.std.specs.Prelude.{◌≡◌, ◌++◌, map, flat_map, option_map, Ok, IfOk, OnOk};
 ghost use Rattle.ss_review.specs.questions.Questions.{asked_block, asked_session, asked_sessions, question_under};
 ghost use Rattle.ss_review.specs.questions.Questions.{session_questions, questions, questions_shared};
 ghost use Rattle.ss_review.specs.sessions.Sectioned.{referred, SessionsRise};
-ghost use Rattle.ss_review.specs.pinned.Pinned.{pinned_sessions, session_pinned};
+ghost use Rattle.ss_review.specs.pinned.Pinned.{pinned_sessions, session_pinned, sessions_by};
 
 use crate::keep::block_message::BlockMessage;
 use crate::pinned::candidates::candidates;
@@ -146,7 +146,7 @@ fn asked_in_turn(
 }
 
 /// What a review of these blocks asks of a scheme where these payloads are known, in the order of their sessions.
-pub(crate) fn pinned_sessions(
+fn pinned_sessions(
     alloc: Global,
     known: &[Bytes],
     blocks: &[BlockMessage],
@@ -166,6 +166,21 @@ pub(crate) fn asked_sessions(
     ensures { IfOk result (λ ss. ss ≡ asked_sessions blocks.now) }
 {
     pinned_sessions(alloc, &[], blocks)
+}
+
+/// What a review of these blocks asks of a scheme, by the payloads that are known beforehand, if some are given, in the
+/// order of their sessions.
+pub(crate) fn sessions_by(
+    alloc: Global,
+    known: Option<&[Bytes]>,
+    blocks: &[BlockMessage],
+) -> Result<AskedSessions, NoMemory>
+    ensures { IfOk result (λ ss. ss ≡ sessions_by (option_map (λ ps. ps.now) known.entry) blocks.now) }
+{
+    match known {
+        None => asked_sessions(alloc, blocks),
+        Some(payloads) => pinned_sessions(alloc, payloads, blocks),
+    }
 }
 
 /// Whether the block is valid under the payload.
