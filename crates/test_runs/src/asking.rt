@@ -4,7 +4,7 @@ ghost use Rattle.std.specs.Prelude.{length, nat_le, true};
 use crate::book::{PAYLOAD, SIGN};
 use crate::texts::{Text, octets_of, signed_of};
 use ss_octets::Bytes;
-use ss_review::{Judge, Question, Questions, ReviewFault, Reviewer};
+use ss_review::{AskedSession, Judge, Question, Questions, ReviewFault, Reviewer};
 use std::alloc::{AllocError, Global};
 use std::cell::Cell;
 use std::process::Abort;
@@ -197,6 +197,30 @@ pub(crate) fn is_asked(
     }
 }
 
+/// Whether the questions about sessions are those, in that order.
+pub(crate) fn are_asked(
+    alloc: Global,
+    sessions: &[AskedSession],
+    asked: &[Asked],
+) -> Result<bool, AllocError> {
+    let mut asked = asked.iter();
+    for session in sessions {
+        let is_trust = matches!(asked.next(), Some(Asked::Trust));
+        if !is_trust || session.payload.as_slice() != PAYLOAD {
+            return Ok(false);
+        }
+        for block in session.blocks.as_slice() {
+            let Some(Asked::Yes(text)) = asked.next() else {
+                return Ok(false);
+            };
+            if block.signature.as_slice() != SIGN || !is_signed(alloc, &block.octets, *text)? {
+                return Ok(false);
+            }
+        }
+    }
+    Ok(asked.next().is_none())
+}
+
 fn fed(alloc: Global, log: &[Text]) -> Result<Reviewer, ReviewFault> {
     let mut reviewer = Reviewer::new(alloc, 16);
     for text in log {
@@ -240,11 +264,55 @@ fn sees(rt: &(impl Abort + AllocGlobal), row: &Row) -> Result<(), ReviewFault> {
     Ok(())
 }
 
+/// A reviewer that was fed the log and asks by these payloads, or without any, asks that session by session, as often as
+/// it is asked to.
+fn sees_asked(
+    rt: &(impl Abort + AllocGlobal),
+    log: &[Text],
+    known: Option<&[Bytes]>,
+    asked: &[Asked],
+) -> Result<(), ReviewFault> {
+    let reviewer = fed(rt.alloc(), log)?;
+    for _ in 0..2 {
+        let sessions = reviewer.ask_by(known)?;
+        let are_asked = are_asked(rt.alloc(), sessions.as_slice(), asked)?;
+        assert!(rt; are_asked, "{log:?}: {asked:?}");
+    }
+    Ok(())
+}
+
+/// A log with a stranger's payload, and what is asked about it by the payload of its session.
+const DISPUTED: (&[Text], &[Asked]) = (
+    &[
+        Text::Short,
+        Text::Certificate,
+        Text::OtherPayload,
+        Text::ShortAlone,
+    ],
+    &[
+        Asked::Trust,
+        Asked::Yes(Text::Certificate),
+        Asked::Yes(Text::OtherPayload),
+        Asked::Yes(Text::ShortAlone),
+    ],
+);
+
+fn sees_asked_by(rt: &(impl Abort + AllocGlobal)) -> Result<(), ReviewFault> {
+    let mut known = Vec::new(rt.alloc());
+    known.push(Bytes::from_vec(Vec::from_slice(rt.alloc(), PAYLOAD)?))?;
+    let (log, asked) = DISPUTED;
+    sees_asked(rt, log, None, &[])?;
+    sees_asked(rt, log, Some(&[]), &[])?;
+    sees_asked(rt, log, Some(known.as_slice()), asked)
+}
+
 #[test]
 fn asking(rt: HostRuntime) -> Result<(), Fail> {
     for row in &ROWS {
         sees(&rt, row)?;
+        sees_asked(&rt, row.log, None, row.asked)?;
     }
+    sees_asked_by(&rt)?;
     Ok(())
 }
 
