@@ -1,5 +1,6 @@
 use Rattle.std.proofs.Common.{◌≡◌, Some, ap, ◌∙◌}
 use Rattle.ss_message.specs.Message.{has_names, has_raws}
+use Rattle.ss_block.specs.declared.block.BlockHeader.{BlockHeader}
 use Rattle.ss_block.specs.declared.reading.Reading.TheVariants as readings
 use Rattle.ss_block.specs.Reading.{reading}
 use Rattle.ss_block.specs.Session.{session}
@@ -13,32 +14,32 @@ use Rattle.ss_block.proofs.writing.write_cert.Goals as goal
 
 pub message-requires-clause-names : goal.message-requires-clause-names
 message-requires-clause-names c =
-    ap has_names (made_signed ssign_cert_element _ _ _ _ _ _ c.in_ok-element.ensures c.in_ok-put_sign.ensures c.in_ok-parameters.ensures c.signature.ensures)
+    ap has_names (made_signed ssign_cert_element _ _ _ _ _ _ c.in_ok-element.ensures c.in_ok-put_sign.ensures c.in_ok-parameters.ensures (ap (λ (h : BlockHeader). h.signature) c.header.ensures))
     ∙ names_signed c.args.block.now
 
 pub message-requires-clause-raws : goal.message-requires-clause-raws
 message-requires-clause-raws c =
-    ap has_raws (made_signed ssign_cert_element _ _ _ _ _ _ c.in_ok-element.ensures c.in_ok-put_sign.ensures c.in_ok-parameters.ensures c.signature.ensures)
+    ap has_raws (made_signed ssign_cert_element _ _ _ _ _ _ c.in_ok-element.ensures c.in_ok-put_sign.ensures c.in_ok-parameters.ensures (ap (λ (h : BlockHeader). h.signature) c.header.ensures))
     ∙ raws_signed c.args.block.now c.assure_certificate.ensures.range
 
 pub returns-clause-text : goal.returns-clause-text
 returns-clause-text c =
-    written_of c.args.head.now c.args.stamp _ _ c.message.result (made_signed ssign_cert_element _ _ _ _ _ _ c.in_ok-element.ensures c.in_ok-put_sign.ensures c.in_ok-parameters.ensures c.signature.ensures) c.message.ensures
+    written_of c.args.head.now c.args.stamp _ _ c.message.result (made_signed ssign_cert_element _ _ _ _ _ _ c.in_ok-element.ensures c.in_ok-put_sign.ensures c.in_ok-parameters.ensures (ap (λ (h : BlockHeader). h.signature) c.header.ensures)) c.message.ensures
 
 pub returns-clause-read : goal.returns-clause-read
 returns-clause-read c =
     holds c.message.result (certificate_text c.args.head.now c.args.stamp c.args.block.now) (λ t. reading t ≡ readings.Certificate c.args.block.now)
-    (written_of c.args.head.now c.args.stamp _ _ c.message.result (made_signed ssign_cert_element _ _ _ _ _ _ c.in_ok-element.ensures c.in_ok-put_sign.ensures c.in_ok-parameters.ensures c.signature.ensures) c.message.ensures)
+    (written_of c.args.head.now c.args.stamp _ _ c.message.result (made_signed ssign_cert_element _ _ _ _ _ _ c.in_ok-element.ensures c.in_ok-put_sign.ensures c.in_ok-parameters.ensures (ap (λ (h : BlockHeader). h.signature) c.header.ensures)) c.message.ensures)
     (certificate_is_read c.args.head.now c.args.stamp c.args.block.now c.assure_in_range.ensures c.assure_timestamp.ensures c.assure_certificate.ensures.range c.assure_certificate.ensures.signature c.requires).read
 
 pub returns-clause-signed : goal.returns-clause-signed
 returns-clause-signed c =
     holds c.message.result (certificate_text c.args.head.now c.args.stamp c.args.block.now) (λ t. signed t ≡ Some (unsigned_certificate_text c.args.head.now c.args.stamp c.args.block.now))
-    (written_of c.args.head.now c.args.stamp _ _ c.message.result (made_signed ssign_cert_element _ _ _ _ _ _ c.in_ok-element.ensures c.in_ok-put_sign.ensures c.in_ok-parameters.ensures c.signature.ensures) c.message.ensures)
+    (written_of c.args.head.now c.args.stamp _ _ c.message.result (made_signed ssign_cert_element _ _ _ _ _ _ c.in_ok-element.ensures c.in_ok-put_sign.ensures c.in_ok-parameters.ensures (ap (λ (h : BlockHeader). h.signature) c.header.ensures)) c.message.ensures)
     (certificate_is_read c.args.head.now c.args.stamp c.args.block.now c.assure_in_range.ensures c.assure_timestamp.ensures c.assure_certificate.ensures.range c.assure_certificate.ensures.signature c.requires).signed
 
 pub returns-clause-session : goal.returns-clause-session
 returns-clause-session c =
     holds c.message.result (certificate_text c.args.head.now c.args.stamp c.args.block.now) (λ t. session t ≡ Some (head_session c.args.head.now c.args.block.now.rsid))
-    (written_of c.args.head.now c.args.stamp _ _ c.message.result (made_signed ssign_cert_element _ _ _ _ _ _ c.in_ok-element.ensures c.in_ok-put_sign.ensures c.in_ok-parameters.ensures c.signature.ensures) c.message.ensures)
+    (written_of c.args.head.now c.args.stamp _ _ c.message.result (made_signed ssign_cert_element _ _ _ _ _ _ c.in_ok-element.ensures c.in_ok-put_sign.ensures c.in_ok-parameters.ensures (ap (λ (h : BlockHeader). h.signature) c.header.ensures)) c.message.ensures)
     (certificate_is_read c.args.head.now c.args.stamp c.args.block.now c.assure_in_range.ensures c.assure_timestamp.ensures c.assure_certificate.ensures.range c.assure_certificate.ensures.signature c.requires).session
