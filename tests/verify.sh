@@ -737,6 +737,28 @@ keys verify --key keys/public-key.pem hostile
 says 'hostile octets' 1 '  place 0: <13>1 - - - - - - \x1b]0;owned\x07\x1b[2J\x80\xff\x5cx1b\x0d\x0a\x7f'
 holds 'nothing but printable ASCII and LF' python3 -c 'import sys; sys.exit(any(it != 10 and not 32 <= it < 127 for it in open("out", "rb").read()))'
 as_reviewed 'hostile octets' hostile
+# letters are letters, and what can't be seen is spelled; a limit counts characters, and cuts none in two
+holds 'each character, against a model' python3 -B "$root/tests/letters.py" check "$root/tools"
+front='<13>1 - gate app - - - '
+frame "$front"$'日本語 Größe שלום e\u301 \U1f44d: \u200f\u3000\u2066\ufe0f\u301x\xe6\x97' >letters
+keys verify --key keys/public-key.pem letters
+says 'letters of each language' 1 "  place 0: $front"$'日本語 Größe שלום e\u301 \U1f44d: ''\xe2\x80\x8f\xe3\x80\x80\xe2\x81\xa6\xef\xb8\x8f\xcc\x81x\xe6\x97'
+as_reviewed 'letters of each language' letters
+{ printf '<13>1 ' && LC_ALL=C tr -d '\n' <"$root/tests/letters.py" && printf '日\xcc\x81\xff\xcd\x8f%.0s' {1..99}; } >text
+{ printf '%d ' "$(stat -c %s text)" && cat text; } >letters
+keys verify --key keys/public-key.pem letters
+holds 'a long text, against a model' grep -Fq "$(python3 -B "$root/tests/letters.py" show <text | head -c 2000)" out
+for it in 2048 2049; do
+    frame "$(printf '語%.0s' $(seq "$it"))" >letters
+    keys verify --key keys/public-key.pem letters
+    more=
+    [[ $it == 2048 ]] || more=' .. (6,147 octets)'
+    says "$it characters" 1 "  place 0: $(printf '語%.0s' {1..2048})$more"
+done
+# a letter isn't cut from its marks
+frame "$(printf '語%.0s' {1..2047})"$'e\u301' >letters
+keys verify --key keys/public-key.pem letters
+says 'a mark after the last character' 1 "  place 0: $(printf '語%.0s' {1..2047}) .. (6,144 octets)"
 mv hostile $'hostile\e[2J'
 keys verify --key keys/public-key.pem first $'hostile\e[2J'
 holds 'a hostile name' grep -Fq 'of hostile\x1b[2J)' out

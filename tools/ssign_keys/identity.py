@@ -3,7 +3,7 @@ from __future__ import annotations
 
 from typing import Any, Dict, List, NamedTuple, Optional
 
-from .words import is_seen, shown, shown_name
+from .words import shown_name, shown_text
 
 
 class CertificateFacts(NamedTuple):
@@ -75,11 +75,6 @@ def certificate_words(certificate: CertificateFacts) -> str:
     """A certificate in a line for a person."""
     return (f"{shown_text(certificate.subject)}, serial number {certificate.serial}, SHA-256 {certificate.fingerprint}, "
             f"valid from {certificate.not_before} to {certificate.not_after}")
-
-
-def shown_text(text: str) -> str:
-    """A text of a certificate: letters of every language stay, and all that can't be seen becomes `\\xNN`."""
-    return "".join(it if is_seen(it) and it != "\\" else shown(it.encode("utf-8", "surrogatepass")) for it in text)
 
 
 def note_of(finding: Finding) -> List[object]:

@@ -18,10 +18,10 @@ from .der import Bad, Item
 from .digests import Digest
 from .faults import Fault
 from .files import read_file
-from .identity import CertificateFacts, certificate_fields, shown_text
+from .identity import CertificateFacts, certificate_fields
 from .payloads import present_stamp
 from .trust import Given
-from .words import grouped, shown_name
+from .words import grouped, shown_name, shown_text
 from .workplace import Workplace, finish, put
 
 from cryptography.hazmat.primitives.serialization import Encoding
