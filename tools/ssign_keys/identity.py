@@ -37,6 +37,9 @@ class Finding(NamedTuple):
     identity: Optional[Identity]
     why: str
     """A sentence without its full stop; empty where there is nothing to say."""
+    other_key: str = ""
+    """The fingerprint of the key that the payload states, if the reviewer gave others for the session, and this isn't one of them.
+    Anybody can state any key."""
 
 
 UNKNOWN = Finding(None, "")
@@ -63,6 +66,7 @@ def identity_fields(finding: Finding) -> Dict[str, object]:
     return {
         "key": shown_name(identity.file) if identity else None, "fingerprint": identity.fingerprint if identity else None,
         "certificate": facts, "payload_time": identity.stamp if identity else None, "why": finding.why or None,
+        "other_key": finding.other_key or None,
     }
 
 
@@ -81,15 +85,15 @@ def note_of(finding: Finding) -> List[object]:
     """A finding as JSON holds it, for `finding_of`."""
     identity = finding.identity
     if identity is None:
-        return [None, finding.why]
+        return [None, finding.why, finding.other_key]
     certificate = identity.certificate and list(identity.certificate)
-    return [[identity.file, identity.fingerprint, certificate, identity.stamp], finding.why]
+    return [[identity.file, identity.fingerprint, certificate, identity.stamp], finding.why, finding.other_key]
 
 
 def finding_of(note: Any) -> Finding:
     """The finding of which `note_of` made this."""
-    identity, why = note
+    identity, why, other_key = note
     if identity is None:
-        return Finding(None, why)
+        return Finding(None, why, other_key)
     file, fingerprint, certificate, stamp = identity
-    return Finding(Identity(file, fingerprint, certificate and CertificateFacts(*certificate), stamp), why)
+    return Finding(Identity(file, fingerprint, certificate and CertificateFacts(*certificate), stamp), why, other_key)

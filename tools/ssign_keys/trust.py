@@ -234,6 +234,13 @@ class Trust:
         return len(self._keys) == 1 and not (self._session_keys or self._authorities or self._signers)
 
     @property
+    def given_words(self) -> str:
+        """How a sentence begins that a key isn't one that the reviewer gave for a session."""
+        if len({it.numbers for it in (*self._any_session, *(it.trusted.key for it in self._session_keys))}) == 1:
+            return "the key that you gave isn't"
+        return "no key that you gave for it is" if self._session_keys else "none of the keys that you gave is"
+
+    @property
     def has_authorities(self) -> bool:
         """Whether a certificate is trusted that isn't given by itself."""
         return bool(self._authorities)
@@ -262,8 +269,21 @@ class Trust:
         if last is None or last[0] is not stated or last[1] != session:
             trusted, why, _ = self._judge_stated(stated, session)
             identity = identity_of(trusted, stated.payload.stamp) if trusted else None
-            last = self._last_judged = stated, session, Judged(trusted, why, Finding(identity, why))
+            other = "" if trusted else self._other_key(stated, session)
+            last = self._last_judged = stated, session, Judged(trusted, why, Finding(identity, why, other))
         return last[2]
+
+    def _other_key(self, stated: Stated, session: Optional[Session]) -> str:
+        """The fingerprint of the key that a payload states, if the reviewer gave others for the session, and none is this one.
+
+        A certificate may be refused for more than its key if authorities are trusted.
+        """
+        given = next((it.trusted.key for it in self._session_keys if session and it.is_for(session)), None)
+        keys = [given] if given else self._any_session
+        if not keys or stated.numbers is None or any(it.numbers == stated.numbers for it in keys):
+            return ""
+        is_for_authorities = given is None and self._authorities and stated.payload.type == CERTIFICATE
+        return "" if is_for_authorities else stated_fingerprint(stated.numbers) or ""
 
     def is_valid(self, payload: bytes, octets: bytes, signature: bytes) -> bool:
         """Whether this is the signature of a block's octets by the key that is trusted for its session."""
