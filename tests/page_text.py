@@ -428,6 +428,7 @@ def check_files(checked: Dict[str, Any], page: Node) -> None:
     for line, it in zip(keys, checked["keys"]):
         assert line.startswith(f"key: {it['option']} {it['file']}") and (it["fingerprint"] or "") in line, (line, it)
         assert it["session"] is None or f" for the session {it['session']}" in line, (line, it)
+        assert it["file_sha256"] is None or f" {it['file']}, a file with the SHA-256 {it['file_sha256']}" in line, (line, it)
         assert it["certificate"] is None or it["certificate"]["subject"] in line and it["certificate"]["fingerprint"] in line
     for name in ("counters", "manifest"):
         it = checked[name]

@@ -146,7 +146,7 @@ def check_checked(path: str, *words: str) -> None:
     # as `openssl pkey -pubin -in key.pem -outform DER | sha256sum` prints it
     fingerprint = "514fb07028b7896891e4f7952886c80362e7b8dd236ac44cdaba5df04449bd7e"
     assert checked["keys"] == [{"option": option, "file": "key.pem", "session": session, "fingerprint": fingerprint,
-                                "certificate": None}], checked["keys"]
+                                "certificate": None, "file_sha256": None}], checked["keys"]
     counters = {"name": "counters", **digest("counters")} if "--counters" in options else None
     assert checked["counters"] == counters and checked["manifest"] is None, checked
     assert checked["ssign"]["sha256"] == digest(os.environ["SSIGN"])["sha256"], checked["ssign"]

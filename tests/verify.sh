@@ -660,7 +660,7 @@ says 'a session that is not here' 1 'Session: HOSTNAME gate, APP-NAME signer, PR
 as_reviewed 'a session that is not here' signed --counters counters
 keys verify --key keys/public-key.pem --json --counters counters signed
 holds 'a session that is not here: its object' grep -Fqx \
-    '{"line":"session","host":"gate","app":"signer","procid":"-","rsid":2,"state":"absent","key":null,"fingerprint":null,"certificate":null,"payload_time":null,"why":null,"other_key":null,"weakness":null,"strangers":0,"first_timestamp":null,"last_timestamp":null}' out
+    '{"line":"session","host":"gate","app":"signer","procid":"-","rsid":2,"state":"absent","key":null,"fingerprint":null,"certificate":null,"payload_time":null,"why":null,"authority":null,"other_key":null,"weakness":null,"strangers":0,"first_timestamp":null,"last_timestamp":null}' out
 holds 'a session that is not here: how many' grep -Fq '"sessions":{"absent":1,"joined":1},' out
 kept '1 3' '1 0 0 11' '2 0'
 keys verify --key keys/public-key.pem --counters counters signed

@@ -29,6 +29,8 @@ class Identity(NamedTuple):
     certificate: Optional[CertificateFacts]
     stamp: str
     """The payload's time, which the signer states: a TIMESTAMP or `-`."""
+    authority: str = ""
+    """The SHA-256 of the file, if it is that of an authority; empty for a key or a certificate that was given."""
 
 
 class Finding(NamedTuple):
@@ -49,10 +51,13 @@ def identity_lines(finding: Finding) -> List[str]:
     """The lines below a session for a person."""
     lines = []
     if finding.identity is not None:
-        file, fingerprint, certificate, stamp = finding.identity
-        lines.append(f"key: {shown_name(file)}, SHA-256 {fingerprint}")
+        file, fingerprint, certificate, stamp, authority = finding.identity
+        lines.append(f"key: that of the certificate, SHA-256 {fingerprint}" if authority else
+                     f"key: {shown_name(file)}, SHA-256 {fingerprint}")
         if certificate is not None:
             lines.append(f"certificate: {certificate_words(certificate)}")
+        if authority:
+            lines.append(f"authority: {file_words(file, authority)}")
         lines.append("payload: states no time" if stamp == "-" else f"payload: of {stamp}, as its signer states")
     if finding.why:
         lines.append(f"why: {finding.why}")
@@ -66,8 +71,14 @@ def identity_fields(finding: Finding) -> Dict[str, object]:
     return {
         "key": shown_name(identity.file) if identity else None, "fingerprint": identity.fingerprint if identity else None,
         "certificate": facts, "payload_time": identity.stamp if identity else None, "why": finding.why or None,
+        "authority": {"file": shown_name(identity.file), "sha256": identity.authority} if identity and identity.authority else None,
         "other_key": finding.other_key or None,
     }
+
+
+def file_words(file: str, sha256: str) -> str:
+    """The file of an authority, whose SHA-256 isn't that of a key or a certificate."""
+    return f"{shown_name(file)}, a file with the SHA-256 {sha256}"
 
 
 def certificate_fields(certificate: Optional[CertificateFacts]) -> Optional[Dict[str, object]]:
@@ -87,7 +98,7 @@ def note_of(finding: Finding) -> List[object]:
     if identity is None:
         return [None, finding.why, finding.other_key]
     certificate = identity.certificate and list(identity.certificate)
-    return [[identity.file, identity.fingerprint, certificate, identity.stamp], finding.why, finding.other_key]
+    return [[identity.file, identity.fingerprint, certificate, identity.stamp, identity.authority], finding.why, finding.other_key]
 
 
 def finding_of(note: Any) -> Finding:
@@ -95,5 +106,5 @@ def finding_of(note: Any) -> Finding:
     identity, why, other_key = note
     if identity is None:
         return Finding(None, why, other_key)
-    file, fingerprint, certificate, stamp = identity
-    return Finding(Identity(file, fingerprint, certificate and CertificateFacts(*certificate), stamp), why, other_key)
+    file, fingerprint, certificate, stamp, authority = identity
+    return Finding(Identity(file, fingerprint, certificate and CertificateFacts(*certificate), stamp, authority), why, other_key)

@@ -35,6 +35,8 @@ class Trusted(NamedTuple):
     key: PublicKey
     certificate: Optional[Certificate]
     """The certificate that says so, where one does."""
+    authority: str = ""
+    """The SHA-256 of the file, if its authority issued the certificate."""
 
 
 class Judged(NamedTuple):
@@ -57,6 +59,8 @@ class Given(NamedTuple):
     fingerprint: Optional[str]
     """The SHA-256 of the key's SubjectPublicKeyInfo in DER; None for an authority."""
     certificate: Optional[CertificateFacts]
+    file_sha256: Optional[str] = None
+    """The SHA-256 of the file of an authority; None for a key."""
 
 
 class SessionKey(NamedTuple):
@@ -218,7 +222,7 @@ class Trust:
                     getattr(arguments, "max_payload", LONGEST_PAYLOAD))
         given += [given_key("--session-key", it.trusted, str(it.pattern)) for it in session_keys]
         given += [given_key("--cert", it, None) for it in signers.values()]
-        given += [Given(it.option, it.path, None, None, certificate.facts) for it in authorities
+        given += [Given(it.option, it.path, None, None, certificate.facts, it.sha256) for it in authorities
                   for found in it.certificates.values() for certificate in found]
         trust.given = given
         return trust
@@ -389,7 +393,7 @@ class Trust:
         if why or not found.numbers:
             return Judged(None, why)
         try:
-            return Judged(Trusted(chain.authority.path, PublicKey(found.numbers), found), "")
+            return Judged(Trusted(chain.authority.path, PublicKey(found.numbers), found, chain.authority.sha256), "")
         except NO_KEY as fault:
             return Judged(None, f"the key of its certificate can't be used: {one_line(fault)}")
 
@@ -403,7 +407,7 @@ def given_key(option: str, trusted: Trusted, session: Optional[str]) -> Given:
 def identity_of(trusted: Trusted, stamp: str) -> Identity:
     """Whose key it is that a payload with this time states."""
     facts = trusted.certificate.facts if trusted.certificate else None
-    return Identity(trusted.name, trusted.key.fingerprint, facts, stamp)
+    return Identity(trusted.name, trusted.key.fingerprint, facts, stamp, trusted.authority)
 
 
 def unknown_key(numbers: Optional[Numbers]) -> str:
