@@ -52,7 +52,7 @@ pub fn open_answers<R: Files + AllocGlobal>(rt: &R, path: &str) -> Result<Answer
     answers_from(rt.alloc(), fs::open(rt, path))
 }
 
-/// The payloads that the lines `trust PAYLOAD` of an answers file trust, each once.
+/// The payloads that the lines `trust PAYLOAD` of an answers file trust, each once, in the order of their octets.
 ///
 /// # Errors
 ///
