@@ -44,6 +44,7 @@ plays "$rows" frames::failing::goes_on_after_want_of_memory frames::streams::str
 plays "$rows" blocks::joining::sequences blocks::joining::longest
 plays "$rows" memory::gives_the_answer_after_want_of_memory blocks::writing::written
 plays "$origins" scripts::goes_on_after_want_of_memory scripts::scripts
+plays "$origins" starts::gives_back_the_sealer_for_want_of_memory starts::starts
 plays "$runs" memory::goes_on_after_want_of_memory asking::asking
 plays "$runs" memory::wants_memory_or_gives_the_output keeping::keeping
 plays "$runs" stops::wants_memory_or_gives_the_output rows::rows

@@ -445,9 +445,10 @@ module _ {J : Type 0} (read : FaultsAreOfNoMessage) (asked : Asking J) (list : J
   failed (faults.Run run.Memory) (inr h) = part h
   failed (faults.TornInput pos) h = nothing h
   failed (faults.LongWrap place) h = nothing h
-  failed (faults.Origin fault place) h = part h
+  failed (faults.Origin fault place) (inl unmade) = nothing unmade.same
+  failed (faults.Origin fault place) (inr h) = part h.1
 
-  pub asked_in : {X : Type 0} (result : Result X SignFault) → AskedRun job asked limits before after was is first (Some last) result → Once
+  pub asked_in : {X : Type 0} (result : Result X SignFault) → AskedRun job asked limits before after was is first last result → Once
   asked_in (Ok x) h =
       let fits = h.seals.accepted.setting.fit.config in
       found fits h.messages h.read (whole read job.setting fits job.start job.stamp asked list lists first (submitted job h.messages) h.emitted last h.seals)

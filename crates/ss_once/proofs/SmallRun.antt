@@ -193,7 +193,7 @@ number_twice pairs =
 gbc_twice : ¬ AllPairs ShareNoGbc (Signature first_block ∷ Signature (block_of 0 3 (message 51 ∷ [])) ∷ [])
 gbc_twice pairs = pairs 0 1 (Signature first_block) (omega arith) (omega arith) 0 refl refl
 
-pub run_asked : IsChainAhead small ahead_lives → AskedRun small_job lists_mark small_limits whole_log no_log nothing_written nothing_written [] (Some small_octets) out_of_memory
+pub run_asked : IsChainAhead small ahead_lives → AskedRun small_job lists_mark small_limits whole_log no_log nothing_written nothing_written [] small_octets out_of_memory
 run_asked chain = inr (in_part chain.setting chain.chained.0.2)
 
 pub small_run_is : IsChainAhead small ahead_lives → RunsSignOnce gives_mark lists_mark → SmallRunIsThis

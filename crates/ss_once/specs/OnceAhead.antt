@@ -1,6 +1,6 @@
 -- Runs of one session that follow one another, whatever came of each. Each begins past all that the one before it may have
 -- had signed.
-use Rattle.std.specs.Prelude.{◌≡◌, ℕ, Bool, List, [], ◌∷◌, ◌++◌, map, reverse, Option, Some, Result}
+use Rattle.std.specs.Prelude.{◌≡◌, ℕ, Bool, List, [], ◌∷◌, ◌++◌, map, reverse, Option, Result}
 use Rattle.std.specs.List.{AllPairs, AllZip, flat_map}
 use Rattle.ss_message.specs.Stamp.{Moment}
 use Rattle.ss_frame.specs.Limits.{Allowance}
@@ -48,7 +48,7 @@ pub record Ran {J : Type 0} (s : Setting) (answers : J → Answers) (asked : Ask
   pub first : J
   pub last : J
   pub result : Result (Unit {0}) SignFault
-  pub asks : AskedRun (signing_from start s (answers first) stamp wraps out) asked limits before after was is first (Some last)
+  pub asks : AskedRun (signing_from start s (answers first) stamp wraps out) asked limits before after was is first last
       result
 
 -- the first one may begin anywhere

@@ -1,6 +1,6 @@
 -- That a run has each number of a group signed once, and each GBC, whatever came of it (RFC 5848, sections 4.2.4 and
 -- 4.2.5).
-use Rattle.std.specs.Prelude.{◌≡◌, ℕ, Bool, List, ◌++◌, map, Option, Some, Result}
+use Rattle.std.specs.Prelude.{◌≡◌, ℕ, Bool, List, ◌++◌, map, Option, Result}
 use Rattle.std.specs.List.{AllPairs}
 use Rattle.ss_message.specs.Stamp.{Moment}
 use Rattle.ss_frame.specs.Limits.{Allowance}
@@ -58,6 +58,6 @@ abbrev pub RunsSignOnce : {J : Type 0} → (J → Answers) → Asking J → Type
 RunsSignOnce {J} answers asked = (list : J → List (List ℕ)) → Lists asked list
     → (start : Start) (s : Setting) (stamp : Option Moment) (wraps : Bool) (out : Form) (limits : Allowance)
     (before after : Source) (was is : Sink) (first last : J) (result : Result (Unit {0}) SignFault)
-    → AskedRun (signing_from start s (answers first) stamp wraps out) asked limits before after was is first (Some last)
+    → AskedRun (signing_from start s (answers first) stamp wraps out) asked limits before after was is first last
     result
     → HasListed list first last (AreSignedOnce s.config.head stamp)

@@ -91,7 +91,7 @@ small_octets = map (unsigned_text small.config.head None) (certificate_due ∷ S
 -- hash for the number 2, and two the GBC 0.
 pub record SmallRunIsThis : Type 0 where
   pub lists : Lists lists_mark as_listed
-  pub asked : AskedRun small_job lists_mark small_limits whole_log no_log nothing_written nothing_written [] (Some small_octets)
+  pub asked : AskedRun small_job lists_mark small_limits whole_log no_log nothing_written nothing_written [] small_octets
       out_of_memory
   pub once : HasListed as_listed [] small_octets (AreSignedOnce small.config.head None)
   pub one_number_twice : ¬ AllPairs ShareNoNumber (Signature first_block ∷ Signature (block_of 1 2 (message 51 ∷ [])) ∷ [])

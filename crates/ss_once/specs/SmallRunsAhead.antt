@@ -82,13 +82,13 @@ succeeded = Ok tt
 
 abbrev pub FirstAsks : Type 0
 FirstAsks =
-    AskedRun small_job lists_mark small_limits whole_log no_log nothing_written nothing_written [] (Some small_octets)
+    AskedRun small_job lists_mark small_limits whole_log no_log nothing_written nothing_written [] small_octets
     out_of_memory
 
 abbrev pub NextAsks : Type 0
 NextAsks =
     AskedRun next_job lists_mark small_limits next_whole no_log nothing_written next_written small_octets
-    (Some both_octets) succeeded
+    both_octets succeeded
 
 abbrev pub first_run : FirstAsks → Ran small gives_mark lists_mark
 first_run asks = record {

@@ -1,6 +1,7 @@
 pub mod InPlace
 pub mod Sending
 pub mod Taking
+pub mod Refused
 pub mod Writing
 pub mod Plans
 pub mod Lines

@@ -1,12 +1,12 @@
 //! Why a log was neither planned nor signed.
-ghost use Rattle.std.specs.Prelude.{◌≡◌};
+ghost use Rattle.std.specs.Prelude.{◌≡◌, None};
 ghost use Rattle.ss_octets.specs.Code.{IsCode};
-ghost use Rattle.ss_signing.specs.declared.fault.SignFault.TheVariants.{Run};
+ghost use Rattle.ss_signing.specs.declared.fault.SignFault.TheVariants.{Run, Origin};
 ghost use Rattle.ss_signing.specs.FaultCode.{sign_fault_code};
 ghost use Rattle.ss_report.specs.declared.fault.RunFault.TheVariants.{Memory};
 
 use ss_octets::{Code, NoMemory};
-use ss_origin::OriginFault;
+use ss_origin::{NotStarted, OriginFault, Seals};
 use ss_report::RunFault;
 
 /// Why nothing was planned or signed. But for a failed write, nothing was written.
@@ -71,5 +71,16 @@ impl From<RunFault> for SignFault {
 
     fn from(fault: RunFault) -> SignFault {
         SignFault::Run(fault)
+    }
+}
+
+impl<J: Seals> From<NotStarted<J>> for SignFault {
+    ghost from_gives = { λ n e. e ≡ Origin n.fault None };
+
+    fn from(n: NotStarted<J>) -> SignFault {
+        SignFault::Origin {
+            fault: n.fault,
+            place: None,
+        }
     }
 }

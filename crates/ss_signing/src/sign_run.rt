@@ -7,7 +7,6 @@ use ss_origin::Seals;
 pub struct SignRun<J: Seals> {
     /// That it succeeded, or why not.
     pub result: Result<(), SignFault>,
-    /// The sealer, after the last question of the run. None if no originator was made (`Origin` without a place, O1 or
-    /// O10): whoever fails to make one drops the sealer.
-    pub sealer: Option<J>,
+    /// The sealer, after the last question of the run.
+    pub sealer: J,
 }

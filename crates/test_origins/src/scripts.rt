@@ -408,10 +408,10 @@ fn start<J: Seals>(alloc: Global, script: &Script, sealer: J) -> Result<Originat
     let Some(config) = config(alloc, &script.setting)? else {
         return Err(OriginFault::BadConfig);
     };
-    match &script.behind {
-        None => Originator::new(alloc, config, sealer),
-        Some(at) => Originator::resume(alloc, config, sealer, &counters(alloc, at)?),
-    }
+    Ok(match &script.behind {
+        None => Originator::new(alloc, config, sealer)?,
+        Some(at) => Originator::resume(alloc, config, sealer, &counters(alloc, at)?)?,
+    })
 }
 
 /// Plays the script at this place with a sealer that answers by the script. Errs only before its first step.

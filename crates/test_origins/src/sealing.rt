@@ -1,8 +1,8 @@
 //! A scheme in which each signature is valid, and what its sealer answers.
 ghost use Rattle.std.specs.Prelude.{true};
 
-use ss_block::Scheme;
-use ss_origin::SealFault;
+use ss_block::{Payload, Scheme};
+use ss_origin::{SealFault, Seals};
 use std::alloc::{AllocError, Global};
 
 /// Everything is trusted and valid.
@@ -41,5 +41,36 @@ pub(crate) fn answer(alloc: Global, seal: Seal) -> Result<Vec<u8>, SealFault> {
             Ok(signature) => Ok(signature),
             Err(_) => Err(SealFault::Memory),
         },
+    }
+}
+
+/// The count of a sealer that wasn't asked yet. No other one has it, so the sealer with it is the one that was given.
+pub const COUNT: u64 = 1_000;
+
+/// Signs nothing, and counts on what it is asked.
+#[derive(Drop)]
+pub struct Counting {
+    pub payload: Payload,
+    pub count: u64,
+}
+
+impl Seals for Counting {
+    ghost sound = { λ _. Unit {0} };
+
+    ghost payload = { λ s. s.payload };
+
+    ghost valid = { λ _ _ _ _. true };
+
+    ghost answers = { λ _ _ _. Unit {0} };
+
+    ghost asked = { λ _ _ _ _. Unit {0} };
+
+    fn payload_block(&self) -> &Payload {
+        &self.payload
+    }
+
+    fn seal(&mut self, _alloc: Global, _octets: &[u8]) -> Result<Vec<u8>, SealFault> {
+        self.count = self.count.saturating_add(1);
+        Err(SealFault::Refused)
     }
 }

@@ -1,10 +1,9 @@
 //! Which configurations and counters an originator is made of: both ends of each range, and what lies beyond them.
-use super::sealing::{Lenient, Seal, answer};
+use super::sealing::{COUNT, Counting};
 use super::settings::{At, Groups, Setting, config, counters, payload};
 use Groups::{ByPri, One, Ranges};
 use ss_block::Alg;
-use ss_origin::{OriginFault, Originator, Sealer, Seals};
-use std::alloc::Global;
+use ss_origin::{NotStarted, OriginFault, Originator};
 use std::process::Abort;
 use std::test::Fail;
 
@@ -69,36 +68,43 @@ const COUNTERS: [(At, Groups, bool); 21] = [
     (At(0, &[]), One(192), false),
 ];
 
-/// Whether an originator is made by this sealer, at these counters if there are any.
-fn is_made_by<J: Seals>(
-    alloc: Global,
+/// Whether an originator is made, at these counters if there are any. Whatever comes of it, its sealer is there still, and
+/// was asked nothing.
+fn is_made(
+    rt: &(impl Abort + AllocGlobal),
     setting: &Setting,
     at: Option<At>,
-    sealer: J,
-) -> Result<bool, OriginFault>
-    requires { J.sound sealer }
-{
-    let Some(config) = config(alloc, setting)? else {
+) -> Result<bool, OriginFault> {
+    let alloc = rt.alloc();
+    let (Some(config), Some(payload)) = (config(alloc, setting)?, payload(alloc)?) else {
         return Err(OriginFault::Memory);
+    };
+    let sealer = Counting {
+        payload,
+        count: COUNT,
     };
     let made = match at {
         None => Originator::new(alloc, config, sealer),
         Some(at) => Originator::resume(alloc, config, sealer, &counters(alloc, &at)?),
     };
     match made {
-        Ok(_) => Ok(true),
-        Err(OriginFault::BadConfig) => Ok(false),
-        Err(fault) => Err(fault),
+        Ok(originator) => {
+            assert_eq!(rt;
+                originator.into_sealer().count,
+                COUNT,
+                "{setting:?} at {at:?}"
+            );
+            Ok(true)
+        }
+        Err(NotStarted { fault, sealer }) => {
+            assert_eq!(rt; sealer.count, COUNT, "{setting:?} at {at:?}");
+            if fault == OriginFault::BadConfig {
+                Ok(false)
+            } else {
+                Err(fault)
+            }
+        }
     }
-}
-
-/// Whether an originator is made, at these counters if there are any.
-fn is_made(alloc: Global, setting: &Setting, at: Option<At>) -> Result<bool, OriginFault> {
-    let Some(payload) = payload(alloc)? else {
-        return Err(OriginFault::Memory);
-    };
-    let seal = |alloc: Global, _octets: &[u8]| answer(alloc, Seal::Refused);
-    is_made_by(alloc, setting, at, Sealer::new(&Lenient, payload, seal))
 }
 
 /// The setting of a row.
@@ -118,9 +124,9 @@ fn setting(row: &Row) -> Setting {
 /// An originator is made exactly where it is to be: a new one, and one after another that sent nothing.
 fn sees_setting(rt: &(impl Abort + AllocGlobal), row: &Row) -> Result<(), OriginFault> {
     let setting = setting(row);
-    let anew = is_made(rt.alloc(), &setting, None)?;
+    let anew = is_made(rt, &setting, None)?;
     assert_eq!(rt; anew, row.5, "{setting:?}");
-    let behind = is_made(rt.alloc(), &setting, Some(At(0, &[])))?;
+    let behind = is_made(rt, &setting, Some(At(0, &[])))?;
     assert_eq!(rt; behind, row.5, "{setting:?} behind another");
     Ok(())
 }
@@ -132,7 +138,7 @@ fn sees_counters(
     wanted: bool,
 ) -> Result<(), OriginFault> {
     let row: Row = (1, groups, 2, 1, 20, true);
-    let made = is_made(rt.alloc(), &setting(&row), Some(at))?;
+    let made = is_made(rt, &setting(&row), Some(at))?;
     assert_eq!(rt; made, wanted, "{at:?} of {groups:?}");
     Ok(())
 }
@@ -144,6 +150,21 @@ fn starts(rt: HostRuntime) -> Result<(), Fail> {
     }
     for (at, groups, made) in &COUNTERS {
         sees_counters(&rt, *at, *groups, *made)?;
+    }
+    Ok(())
+}
+
+/// `tests/memory.sh` refuses each allocation of this test in turn, and it passes each time: where memory runs out the
+/// sealer is given back, and was asked nothing. Made again, the originator is made.
+#[test]
+fn gives_back_the_sealer_for_want_of_memory(rt: HostRuntime) -> Result<(), Fail> {
+    for at in [None, Some(At(7, &[(13, 5)]))] {
+        let setting = setting(&SETTINGS[0]);
+        let mut made = is_made(&rt, &setting, at);
+        if made == Err(OriginFault::Memory) {
+            made = is_made(&rt, &setting, at);
+        }
+        assert_eq!(rt; made, Ok(true), "{at:?}");
     }
     Ok(())
 }

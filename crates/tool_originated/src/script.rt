@@ -56,7 +56,7 @@ fn start<'d, 't, R: Print + AllocGlobal>(
             print_session(rt, &originator)?;
             script.originator = Some(originator);
         }
-        Err(fault) => println!(rt; "{}", fault.code())?,
+        Err(not_started) => println!(rt; "{}", not_started.fault.code())?,
     }
     Ok(())
 }
