@@ -86,7 +86,7 @@ IsHeldFault held fault = (left : Option (List ℕ)) × IsAnswerFault held left 4
 -- the payloads are those that the lines of such a file trust
 pub record ArePayloadsHeld (held : Option (List ℕ)) (payloads : List (List ℕ)) : Type 0 where
   pub answers : List Answer
-  pub held : AreHeld held answers
+  pub gives : AreHeld held answers
   pub are : payloads ≡ payloads_of answers
 
 -- what a fault says about a file
