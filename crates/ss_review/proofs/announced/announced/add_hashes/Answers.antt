@@ -29,7 +29,7 @@ loop-hash-preserved c =
           (let rest = rows_said (session_at js c.args.session) (Hashes (record b { first = c.loop-hash.number + 1; hashes = drop (i + 1) hashes })) in
           ap (λ rows. map (row_at js) rows ++ rest) c.in_ok-push.ensures.items
           ∙ row_more js c.loop-hash.rows.items _ rest
-          ∙ (λ j. map (row_at js) c.loop-hash.rows.items ++ record { key = record { session = session_at js c.args.session; group = c.group-group.ensures j; number = c.loop-hash.number }; hash = get_or hashes i (Sha1 []) } ∷ rest)
+          ∙ (λ j. map (row_at js) c.loop-hash.rows.items ++ record { key = record { session = session_at js c.args.session; group = (c.header.ensures j).group; number = c.loop-hash.number }; hash = get_or hashes i (Sha1 []) } ∷ rest)
           ∙ ap (λ hs. map (row_at js) c.loop-hash.rows.items ++ rows_said (session_at js c.args.session) (Hashes (record b { first = c.loop-hash.number; hashes = hs }))) (sym here)
           ∙ c.loop-hash.invariant.rest js);
     }

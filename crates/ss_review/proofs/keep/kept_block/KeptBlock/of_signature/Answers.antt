@@ -2,6 +2,7 @@ use Rattle.std.proofs.Common.{◌≡◌, ℕ, List, length, take, ap, ◌∙◌,
 use Rattle.std.specs.Prelude.{IfOk}
 use Rattle.std.proofs.lemmas.List.{take_all}
 use Rattle.ss_block.specs.Block as block
+use Rattle.ss_block.specs.declared.block.BlockHeader.{BlockHeader}
 use Rattle.ss_block.specs.declared.session.Session.{Session}
 use Rattle.ss_block.specs.declared.session_places.SessionPlaces.{SessionPlaces}
 use Rattle.ss_block.specs.SessionPlaces.{session_at}
@@ -50,10 +51,12 @@ returns c =
     let session =
     ap (λ octets. session_at octets c.args.sender) (c.in_ok-packed.ensures.front ∙ ap (take c.args.text.start) c.as_slice.ensures)
     ∙ session_before c.args.signed c.args.sender c.args.text c.requires.sender c.requires.before in
-    let content : kept.Hashes c.group.result c.gbc.result c.first.result p.count ≡ kept.Hashes b.group b.gbc b.first p.count = cc in
+    let group = c.header-3.result.now.group in
+    let same : group ≡ b.group = ap (λ (h : BlockHeader). h.group) c.header-3.ensures in
+    let content : kept.Hashes group c.gbc.result c.first.result p.count ≡ kept.Hashes b.group b.gbc b.first p.count = cc in
     subst (λ m. IfOk c.block_with.result (λ b. b ≡ m))
-    (ap (λ s. message_kept c.args.place s (kept.Hashes c.group.result c.gbc.result c.first.result p.count) p) c.of.ensures
-    ∙ whole b c.args.place c.args.sender c.args.signed _ p content c.requires.rsid (c.in_ok-packed.ensures.alg ∙ c.alg-alg.ensures)
-    (c.in_ok-packed.ensures.count ∙ ap length hashes) (c.in_ok-packed.ensures.hashes ∙ hashes) (c.in_ok-packed.ensures.signature ∙ c.as_slice-signature.ensures ∙ c.signature.ensures) session
+    (ap (λ s. message_kept c.args.place s (kept.Hashes group c.gbc.result c.first.result p.count) p) c.of.ensures
+    ∙ whole b c.args.place c.args.sender c.args.signed _ p content c.requires.rsid (c.in_ok-packed.ensures.alg ∙ ap (λ (h : BlockHeader). h.alg) c.header-2.ensures)
+    (c.in_ok-packed.ensures.count ∙ ap length hashes) (c.in_ok-packed.ensures.hashes ∙ hashes) (c.in_ok-packed.ensures.signature ∙ c.as_slice-signature.ensures ∙ ap (λ (h : BlockHeader). h.signature) c.header.ensures) session
     (c.in_ok-packed.ensures.signed ∙ c.as_slice.ensures))
     c.block_with.ensures
