@@ -19,11 +19,12 @@ import json
 import os
 import re
 import sys
-import unicodedata
 import zlib
 from html.parser import HTMLParser
 from typing import Any, Dict, Iterator, List, Optional, Set, Tuple
 from urllib.parse import unquote
+
+import letters
 
 ALONE = {"meta", "br", "link", "img", "input", "hr"}
 ALLOWED = {
@@ -119,7 +120,7 @@ def check_form(path: str, made_by: str = "ssign-keys verify --html", more: Optio
         source = file.read()
     assert source.startswith(f"<!DOCTYPE html>\n<!-- made by {made_by} -->\n<html lang=\"en\">\n"), source[:100]
     assert source.endswith("</html>\n")
-    odd = {it for it in source if it != "\n" and (unicodedata.category(it)[0] == "C" or it in "\u2028\u2029\u3164\ufe0f\u034f")}
+    odd = {it for it in source if it not in "\\\n" and letters.kind(it) == "x"}
     assert not odd, odd
     page = read_page(path)
     for it in page.all():
@@ -394,8 +395,13 @@ def check_kind(kind: str, rows: List[Row], page: Node, is_one_file: bool) -> Non
         for it in places:
             place = f"{place_words(it, is_one_file)}: "
             # a page has room for so many letters, and then shows fewer of each text
-            at = text.index(("" if len(wanted.texts) == 1 and wanted.between == "" else place) + it["text"][:100], at)
-            is_cut = it["octets"] > (2048 if it["line"] == "unlisted" else 60)
+            octets, most = letters.restored(it["text"]), 2048 if it["line"] == "unlisted" else 60
+            # the JSON counts octets, and the page characters: the last of these may be cut in the JSON
+            front = octets.decode("utf-8", "surrogateescape")
+            is_cut = it["octets"] > 4 * most or len(front) == most < it["octets"]
+            front = front[:-3] if len(octets) < it["octets"] else front
+            said = letters.shown(front.encode("utf-8", "surrogateescape"))[:100]
+            at = text.index(("" if len(wanted.texts) == 1 and wanted.between == "" else place) + said, at)
             assert not is_cut or f" .. ({grouped(it['octets'], 'octet')})" in text[at:], text
         more = len(wanted.texts) - len(places)
         assert not more or f"and {grouped(more, 'more message')}" in text, text
@@ -422,6 +428,7 @@ def check_files(checked: Dict[str, Any], page: Node) -> None:
     for line, it in zip(keys, checked["keys"]):
         assert line.startswith(f"key: {it['option']} {it['file']}") and (it["fingerprint"] or "") in line, (line, it)
         assert it["session"] is None or f" for the session {it['session']}" in line, (line, it)
+        assert it["file_sha256"] is None or f" {it['file']}, a file with the SHA-256 {it['file_sha256']}" in line, (line, it)
         assert it["certificate"] is None or it["certificate"]["subject"] in line and it["certificate"]["fingerprint"] in line
     for name in ("counters", "manifest"):
         it = checked[name]

@@ -405,6 +405,16 @@ def others(trials: Trials) -> None:
     trials.refused("no folder", trials.sign(1), "there is no folder S, which --state names: begin a session in it with --new-session")
     os.mkdir("S")
     trials.refused("an empty folder", trials.sign(1), "the state S has no session: begin one with --new-session")
+    # live refuses a folder with such a session for ever
+    for name in ("state-0", "state-1"):
+        fresh()
+        os.mkdir("S")
+        write(os.path.join("S", name), b"a state of live")
+        for words in ((), ("--new-session", *NAMES)):
+            trials.refused(f"a folder of live: {name}: {len(words)} words", trials.sign(1, *words),
+                           "the folder of --state is one of `ssign-keys live`: name another one")
+        trials.holds(f"a folder of live: {name}: no session is begun", sorted(set(os.listdir("S")) - {"lock"}) == [name])
+    fresh()
     trials.refused("--new-session alone", run("sign", "--key", trials.key(), "--rsid", "1", "--new-session", "-"), "--new-session goes with --state FOLDER")
     trials.refused("no name", run("sign", "--key", trials.key(), "--state", "", "-"), "--state has an empty name")
     trials.sign(1, "--new-session", *NAMES)

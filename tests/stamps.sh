@@ -85,7 +85,7 @@ holds 'verify: the verdict' test "$(tail -n 1 out)" = "Verdict: $clean These cou
 holds 'verify: nothing else is said' test ! -s err
 keys "${verify[@]}" "${stamped[@]}" --details signed
 holds 'verify: what was checked' grep -qFx "  time stamp: counters.tsr, $(printf "%'d" "$(stat -c %s counters.tsr)" | sed 's/^\([0-9]\)\([0-9]\{3\}\)$/\1,\2/') octets, SHA-256 $(sha256sum <counters.tsr | cut -d ' ' -f 1); of the counters, at $when, within 1 second, by CN=trial TSA,O=Trial; serial number $(openssl ts -reply -in counters.tsr -text 2>openssl.log | sed -n 's/^Serial number: 0x//p'), policy 1.2.3.4.1" out
-holds 'verify: the authority' grep -q '^  key: --tsa-ca trial/ca.pem; certificate CN=trial CA, serial number ' out
+holds 'verify: the authority' grep -q '^  key: --tsa-ca trial/ca.pem, a file with the SHA-256 [0-9a-f]*; certificate CN=trial CA, serial number ' out
 keys "${verify[@]}" "${stamped[@]}" --raw signed
 holds 'verify --raw: the report alone' cmp out <("$program" review --counters counters --answers "$root/examples/signed/signed.answers" <signed)
 holds 'verify --raw: what the stamp shows' test "$(<err)" = "ssign-keys: These counters $sentence"

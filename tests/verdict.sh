@@ -82,7 +82,9 @@ verify --key other/public-key.pem --json long
 holds 'a wrong key: the JSON has each message' test "$(grep -c '^{"line":"unlisted",' out)" = 11000
 verify --key other/public-key.pem --raw --findings long
 holds 'a wrong key: so has the report' test "$(grep -c '^unlisted ' out)" = 11000
-holds 'a wrong key: what a report cannot say stands beside it' grep -qFx "ssign-keys: Nothing in this log is shown to be authentic. Whatever was signed may have been taken out." err
+holds 'a wrong key: what a report cannot say stands beside it' cmp err <(printf 'ssign-keys: %s\n' \
+    "the key that you gave isn't the one that its signer states (SHA-256 $(openssl pkey -pubin -in made/keys/public-key.pem -outform DER | sha256sum | cut -d ' ' -f 1))" \
+    "Nothing in this log is shown to be authentic. Either you gave the wrong key, or the log isn't as it was signed: anybody can write one that states another key.")
 python3 -B - "$root" <<'END'
 import sys
 sys.path.insert(0, sys.argv[1] + "/tests")

@@ -72,7 +72,8 @@ def hostile(folder: str, name: str) -> None:
     odd = [b"<script>alert(1)</script>", b"</td></table><h1>CLEAN</h1>", b"<!-- -->", b"]]>", b"&lt;&#60;&amp;", b"\"'`",
            b"\x1b]0;owned\x07\x1b[2J", b"\xe2\x80\xae\xe2\x81\xa6 turned", b"\xe3\x85\xa4\xef\xb8\x8f\xcd\x8f", b"\x80\xff\\x1b",
            b"\r\n\x7f\0", b"\xf3\xa0\x84\x81", b"javascript:alert(1)", b"{{7*7}}${7}", name.encode("utf-8", "surrogateescape"),
-           b"a" * 3000, b"\xe2\x80\xae" * 900]
+           b"a" * 3000, b"\xe2\x80\xae" * 900, "日本語 Größe שלום e\u0301 \U0001f44d".encode(), b"\xcc\x81a" + b"\xcc\x81" * 9,
+           "日本語".encode() * 700]
     texts = [b"<13>1 2026-01-01T00:00:0%dZ h a - - - %s" % (at % 10, it) for at, it in enumerate(odd)]
     write(f"{folder}/texts", b"".join(it.replace(b"\n", b" ").replace(b"\0", b" ") + b"\n" for it in texts))
     stray = [*texts, *odd, b"<13>1 2026-99-99T00:00:00Z h a - - - no time", b"<13>1 - <b> <i> - - [ssign VER=\"<u>\"] x",
@@ -145,7 +146,7 @@ def check_checked(path: str, *words: str) -> None:
     # as `openssl pkey -pubin -in key.pem -outform DER | sha256sum` prints it
     fingerprint = "514fb07028b7896891e4f7952886c80362e7b8dd236ac44cdaba5df04449bd7e"
     assert checked["keys"] == [{"option": option, "file": "key.pem", "session": session, "fingerprint": fingerprint,
-                                "certificate": None}], checked["keys"]
+                                "certificate": None, "file_sha256": None}], checked["keys"]
     counters = {"name": "counters", **digest("counters")} if "--counters" in options else None
     assert checked["counters"] == counters and checked["manifest"] is None, checked
     assert checked["ssign"]["sha256"] == digest(os.environ["SSIGN"])["sha256"], checked["ssign"]

@@ -228,6 +228,7 @@ def check_json(report: str, path: str, log: str, status: str, *options: str) -> 
     assert {key: verdict[key] for key in verdict if "missing_" in key} == missing, (verdict, missing)
     assert list(verdict) == ["line", "status", "review_status", "verdict", "sessions", "listed", "missing", "disputed",
                              "unannounced", *missing, "unlisted", "verified", "unverified", "strangers", "strangers_ignored", "unbound_keys",
+                             "other_keys",
                              "spoilt", *MARKED, "damaged", "damaged_octets", "torn", "groups"], list(verdict)
     # blocks of sessions that aren't joined are unverified as well
     assert verdict["strangers"] <= verdict["unverified"] and not verdict["strangers_ignored"], verdict
@@ -271,8 +272,9 @@ def check_key(session: Dict[str, object], is_known: bool) -> None:
     """Takes out of a session what it says of its key, which is that of the test where it is known."""
     with open("keys/public-key.pem", "rb") as file:
         der = base64.b64decode(b"".join(file.read().split(b"\n")[1:-2]))
-    key, fingerprint, certificate, payload_time, why, weakness, strangers = (
-        session.pop(it) for it in ("key", "fingerprint", "certificate", "payload_time", "why", "weakness", "strangers"))
+    key, fingerprint, certificate, payload_time, why, authority, other_key, weakness, strangers = (session.pop(it) for it in (
+        "key", "fingerprint", "certificate", "payload_time", "why", "authority", "other_key", "weakness", "strangers"))
+    assert authority is None and (other_key is None or not is_known and other_key in str(why)), (authority, other_key, why)
     assert isinstance(strangers, int) and (strangers == 0 or session["state"] == "joined"), strangers
     assert certificate is None and weakness is None, (certificate, weakness)
     if is_known:

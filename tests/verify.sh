@@ -309,15 +309,37 @@ says 'a run of messages taken out' 1 '    missing: numbers 1 to 3 (3 messages)' 
 head -c -3 signed >stored
 keys verify --key keys/public-key.pem stored
 says 'a torn end' 1 'Verdict: FINDINGS: of 8 announced messages 8 are present and unchanged; 2 stored messages are unlisted; the log breaks off.'
-nothing="Verdict: NOTHING IS SHOWN: no session here is joined, so no block is verified; 10 stored messages are unlisted; 5 blocks are unverified; 1 session isn't joined. $nothing_shown"
+print_of() {
+    python3 -B -c 'import base64, hashlib, sys
+print("SHA-256", hashlib.sha256(base64.b64decode(b"".join(open(sys.argv[1], "rb").read().splitlines()[1:-1]))).hexdigest())' "$1"
+}
+mine=$(print_of keys/public-key.pem) others=$(print_of others/public-key.pem)
+wrong_key="Nothing in this log is shown to be authentic. Either you gave the wrong key, or the log isn't as it was signed: anybody can write one that states another key."
+nothing="Verdict: NOTHING IS SHOWN: the key that you gave isn't the one that its signer states ($mine), so no block is verified; 10 stored messages are unlisted; 5 blocks are unverified; 1 session isn't joined. $wrong_key"
 keys verify --key others/public-key.pem signed
 says 'another key' 1 '  state: untrusted; it states no key that you trust; its signatures were ignored' "$nothing"
+holds 'another key: it is the last line' test "$(tail -n 1 out)" = "$nothing"
+holds 'another key: nothing was taken out, as far as anybody can say' test "$(grep -c 'taken out' out)" = 0
+keys verify --key others/public-key.pem --json --html other.html signed
+holds 'another key: as JSON' python3 -B -c 'import json, sys
+objects = [json.loads(it) for it in open("out")]
+session = next(it for it in objects if it["line"] == "session")
+assert "SHA-256 " + session["other_key"] == sys.argv[1] and session["key"] is session["fingerprint"] is None, session
+assert objects[-1]["other_keys"] == 1 and objects[-1]["verdict"] == sys.argv[2] and objects[-1]["status"] == 1, objects[-1]' "$mine" "${nothing#Verdict: }"
+holds 'another key: on the page' grep -qF "isn&#x27;t the one that its signer states ($mine), so no block is verified; " other.html
+keys verify --key others/public-key.pem --session-key 'no such one 1' others/public-key.pem signed
+holds 'another key, twice: it is one' test "$(tail -n 1 out)" = "$nothing"
+keys make keys-of-nobody --ver 0121
+keys verify --key others/public-key.pem --key keys-of-nobody/public-key.pem signed
+says 'two other keys' 1 "${nothing/the key that you gave isn\'t the/none of the keys that you gave is the}"
+keys verify --key keys/public-key.pem --session-key '* * * *' others/public-key.pem signed
+says 'another key for the session' 1 "${nothing/the key that you gave isn\'t the/no key that you gave for it is the}"
 keys sign --key others/private-key.pem --ver 0121 --host gate --app signer --rsid 2 --lines "$ten"
 cat signed out >both
 keys verify --key keys/public-key.pem both
 says 'a session of another key behind' 1 'Session: HOSTNAME gate, APP-NAME signer, PROCID -, RSID 2' "$joined" \
     '  state: untrusted; it states no key that you trust; its signatures were ignored'
-holds 'its blocks and copies' grep -q '^Verdict: FINDINGS: of 10 announced messages 10 are present and unchanged; 10 stored messages are unlisted; . blocks are unverified; 1 session isn.t joined\.$' out
+holds 'its blocks and copies' grep -q '^Verdict: FINDINGS: of 10 announced messages 10 are present and unchanged; 10 stored messages are unlisted; . blocks are unverified; 1 session isn.t joined: it states a key that you didn.t give ('"$others"')\.$' out
 keys verify --key keys/public-key.pem --key others/public-key.pem both
 says 'both keys' 0 "$my_key" "$other_key" "Verdict: All 20 announced messages are present and unchanged, and each other stored message \
 is a verified block. $could keys/public-key.pem, others/public-key.pem."
@@ -638,7 +660,7 @@ says 'a session that is not here' 1 'Session: HOSTNAME gate, APP-NAME signer, PR
 as_reviewed 'a session that is not here' signed --counters counters
 keys verify --key keys/public-key.pem --json --counters counters signed
 holds 'a session that is not here: its object' grep -Fqx \
-    '{"line":"session","host":"gate","app":"signer","procid":"-","rsid":2,"state":"absent","key":null,"fingerprint":null,"certificate":null,"payload_time":null,"why":null,"weakness":null,"strangers":0,"first_timestamp":null,"last_timestamp":null}' out
+    '{"line":"session","host":"gate","app":"signer","procid":"-","rsid":2,"state":"absent","key":null,"fingerprint":null,"certificate":null,"payload_time":null,"why":null,"authority":null,"other_key":null,"weakness":null,"strangers":0,"first_timestamp":null,"last_timestamp":null}' out
 holds 'a session that is not here: how many' grep -Fq '"sessions":{"absent":1,"joined":1},' out
 kept '1 3' '1 0 0 11' '2 0'
 keys verify --key keys/public-key.pem --counters counters signed
@@ -661,12 +683,12 @@ keys verify --key keys/public-key.pem --counters counters both
 says 'a session of another key, which the counters do not name' 1 \
     '  state: untrusted; it states no key that you trust; its signatures were ignored'
 holds 'a session of another key, which the counters do not name: they cover a part' \
-    grep -q "^Verdict: FINDINGS: .*; 1 session isn't joined\\. ${part//./\\.}\$" out
+    grep -q "^Verdict: FINDINGS: .*; 1 session isn't joined: it states a key that you didn't give ($others)\\. ${part//./\\.}\$" out
 as_reviewed 'a session of another key, which the counters do not name' both --counters counters
 kept '1 3' '1 0 0 11' '2 0'
 keys verify --key keys/public-key.pem --counters counters both
 holds 'a session of another key, which sent no block by the counters: they cover all' \
-    grep -q "^Verdict: FINDINGS: .*; 1 session isn't joined\\. Nothing is missing up to the counters\\.\$" out
+    grep -q "^Verdict: FINDINGS: .*; 1 session isn't joined: it states a key that you didn't give ($others)\\. Nothing is missing up to the counters\\.\$" out
 kept '1 3' '1 0 0 11'
 keys verify --key keys/public-key.pem --counters counters --lines "$ten"
 says 'the blocks taken out' 1 "Verdict: NOTHING IS SHOWN: of its 10 messages none is a block; 10 messages up to the counters are missing or unlisted; 3 signature blocks are missing or unverified, so messages may be missing without another line saying so; 10 stored messages are unlisted; 1 session that the counters name isn't here. $nothing_shown"
@@ -737,6 +759,28 @@ keys verify --key keys/public-key.pem hostile
 says 'hostile octets' 1 '  place 0: <13>1 - - - - - - \x1b]0;owned\x07\x1b[2J\x80\xff\x5cx1b\x0d\x0a\x7f'
 holds 'nothing but printable ASCII and LF' python3 -c 'import sys; sys.exit(any(it != 10 and not 32 <= it < 127 for it in open("out", "rb").read()))'
 as_reviewed 'hostile octets' hostile
+# letters are letters, and what can't be seen is spelled; a limit counts characters, and cuts none in two
+holds 'each character, against a model' python3 -B "$root/tests/letters.py" check "$root/tools"
+front='<13>1 - gate app - - - '
+frame "$front"$'日本語 Größe שלום e\u301 \U1f44d: \u200f\u3000\u2066\ufe0f\u301x\xe6\x97' >letters
+keys verify --key keys/public-key.pem letters
+says 'letters of each language' 1 "  place 0: $front"$'日本語 Größe שלום e\u301 \U1f44d: ''\xe2\x80\x8f\xe3\x80\x80\xe2\x81\xa6\xef\xb8\x8f\xcc\x81x\xe6\x97'
+as_reviewed 'letters of each language' letters
+{ printf '<13>1 ' && LC_ALL=C tr -d '\n' <"$root/tests/letters.py" && printf '日\xcc\x81\xff\xcd\x8f%.0s' {1..99}; } >text
+{ printf '%d ' "$(stat -c %s text)" && cat text; } >letters
+keys verify --key keys/public-key.pem letters
+holds 'a long text, against a model' grep -Fq "$(python3 -B "$root/tests/letters.py" show <text | head -c 2000)" out
+for it in 2048 2049; do
+    frame "$(printf '語%.0s' $(seq "$it"))" >letters
+    keys verify --key keys/public-key.pem letters
+    more=
+    [[ $it == 2048 ]] || more=' .. (6,147 octets)'
+    says "$it characters" 1 "  place 0: $(printf '語%.0s' {1..2048})$more"
+done
+# a letter isn't cut from its marks
+frame "$(printf '語%.0s' {1..2047})"$'e\u301' >letters
+keys verify --key keys/public-key.pem letters
+says 'a mark after the last character' 1 "  place 0: $(printf '語%.0s' {1..2047}) .. (6,144 octets)"
 mv hostile $'hostile\e[2J'
 keys verify --key keys/public-key.pem first $'hostile\e[2J'
 holds 'a hostile name' grep -Fq 'of hostile\x1b[2J)' out

@@ -78,7 +78,7 @@ for number in "${!commands[@]}"; do
     fi
     status=$(<"$scratch/status.$number")
     # the page has words in place of what each new key has anew
-    sed -E 's/, SHA-256 [0-9a-f]{64}$/, SHA-256 FINGERPRINT/; s/ of [0-9-]{10}T[0-9:]{8}Z, as its/ of TIME, as its/' \
+    sed -E 's/SHA-256 [0-9a-f]{64}(\)|$)/SHA-256 FINGERPRINT\1/; s/ of [0-9-]{10}T[0-9:]{8}Z, as its/ of TIME, as its/' \
         "$scratch/out.$number" >"$scratch/out"
     cp -- "$scratch/err.$number" "$scratch/err"
     # what is shown may lack the LF at its end, as a decoded block does

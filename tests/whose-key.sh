@@ -94,10 +94,10 @@ session, = (it for it in map(json.loads, open(sys.argv[1], encoding="utf-8")) if
 certificate = session["certificate"] or {}
 found = {"key": session["key"], "fingerprint": session["fingerprint"], "time": session["payload_time"], "why": session["why"],
          "weakness": session["weakness"], "subject": certificate.get("subject"), "serial": certificate.get("serial"),
-         "print": certificate.get("fingerprint"), "from": certificate.get("not_before"), "to": certificate.get("not_after")}
+         "authority": " ".join((session["authority"] or {}).values()), "print": certificate.get("fingerprint"), "from": certificate.get("not_before"), "to": certificate.get("not_after")}
 for it in sys.argv[2:]:
     name, _, value = it.partition("=")
-    assert found[name] == (value or None), (name, found[name], value)
+    assert (found[name] or None) == (value or None), (name, found[name], value)
 END
 }
 
@@ -107,7 +107,9 @@ for each in ec rsa ed dsa; do
     issue "leaf-$each" "/O=Originators/CN=$each.example.org" "$each" one/private-key.pem 'subjectAltName = DNS:gate'
     signed "leaf-$each" gate 2026-01-15T09:16:30.25+02:00
     taken "an issuer with a key of $each" --ca "$each.crt"
-    holds "$each: the key" grep -Fqx "  key: $each.crt, SHA-256 $spki" out
+    holds "$each: the key" grep -Fqx "  key: that of the certificate, SHA-256 $spki" out
+    authority=$(sha256sum <"$each.crt" | cut -d ' ' -f 1)
+    holds "$each: the file of the authority" grep -Fqx "  authority: $each.crt, a file with the SHA-256 $authority" out
     print=$(openssl x509 -in "leaf-$each.crt" -noout -fingerprint -sha256 | sed 's/.*=//; s/://g' | tr A-F a-f)
     serial=$(openssl x509 -in "leaf-$each.crt" -noout -serial | sed 's/.*=//')
     subject=$(openssl x509 -in "leaf-$each.crt" -noout -subject -nameopt RFC2253 | sed 's/^subject=//')
@@ -116,8 +118,21 @@ for each in ec rsa ed dsa; do
     holds "$each: the time" grep -Fqx '  payload: of 2026-01-15T09:16:30.25+02:00, as its signer states' out
     keys verify --json --ca "$each.crt" log
     holds "$each: as JSON" is_session out "key=$each.crt" "fingerprint=$spki" "subject=$subject" "serial=$serial" "print=$print" \
-        from=2020-01-01T00:00:00Z to=2090-01-01T00:00:00Z time=2026-01-15T09:16:30.25+02:00 why= weakness=
+        "authority=$each.crt $authority" from=2020-01-01T00:00:00Z to=2090-01-01T00:00:00Z time=2026-01-15T09:16:30.25+02:00 why= weakness=
 done
+signed leaf-rsa gate
+# what was checked has the file and the certificate in it, which have different sums
+keys verify --details --html authority.html --ca rsa.crt log
+anchor=$(openssl x509 -in rsa.crt -noout -fingerprint -sha256 | sed 's/.*=//; s/://g' | tr A-F a-f)
+sum=$(sha256sum <rsa.crt | cut -d ' ' -f 1)
+holds 'with --details: the file and its certificate' grep -q "^  key: --ca rsa.crt, a file with the SHA-256 $sum; certificate .*, SHA-256 $anchor, " out
+holds 'on the page: the file and its certificate' grep -q "key: --ca rsa.crt, a file with the SHA-256 $sum; certificate .*, SHA-256 $anchor, " authority.html
+holds 'on the page: the authority of the session' grep -Fq "authority: rsa.crt, a file with the SHA-256 $sum<" authority.html
+keys verify --json --ca rsa.crt --cert leaf-rsa.crt log
+holds 'as JSON: the file' python3 -B -c 'import json, sys
+keys = {it["option"]: it["file_sha256"] for it in json.loads(open("out").readline())["keys"]}
+assert keys == {"--ca": sys.argv[1], "--cert": None}, keys' "$sum"
+holds 'a certificate of --cert: no authority' is_session out key=leaf-rsa.crt "fingerprint=$spki" authority=
 # the weakness of the session is that of its VER alone, and no matter of the certificate
 VER=0111 signed leaf-rsa gate
 keys verify --json --allow-sha1 --ca rsa.crt log
@@ -229,7 +244,7 @@ issue short '/CN=short' short rsa.pem 'basicConstraints = critical, CA:TRUE, pat
 bound 'an authority below one with pathlen 0' 'openssl refuses CN=short above its certificate: path length constraint exceeded' short \
     'keyUsage = critical, keyCertSign' 'subjectAltName = DNS:gate.example.org'
 holds 'an authority below one with pathlen 0, as an anchor' test "$status" = 0
-holds 'an anchor: its file is named' grep -q '^  key: between.crt, ' out
+holds 'an anchor: its file is named' grep -Fqx "  authority: between.crt, a file with the SHA-256 $(sha256sum <between.crt | cut -d ' ' -f 1)" out
 bound 'an authority below one that has expired' 'openssl refuses O=Authority,CN=ca of rsa above its certificate: certificate has expired' old-ca \
     'keyUsage = critical, keyCertSign' 'subjectAltName = DNS:gate.example.org'
 holds 'an authority below one that has expired, as an anchor' test "$status" = 0

@@ -5,7 +5,7 @@ A report is surveyed before anything of it is shown: also one that is passed on 
 from __future__ import annotations
 
 from array import array
-from typing import NamedTuple, Optional, Sequence, Set, Tuple
+from typing import Counter, NamedTuple, Optional, Sequence, Set, Tuple
 
 from . import sha1
 from .blocks import Session
@@ -42,6 +42,8 @@ class Survey(ReportVisitor):
         self.unlisted = array("I")
         self.refused = array("I")
         self.joined: Set[Session] = set()
+        # the fingerprint of each other key than the given ones, and how many untrusted sessions state it
+        self.other_keys: Counter[str] = Counter()
         self.reach = Reach(counters)
         self._notes = notes
         self._facts: Optional[BlockFacts] = None
@@ -121,6 +123,8 @@ class Survey(ReportVisitor):
         if state == "joined":
             self.joined.add(session)
             self._valid += 0 if self._facts is None else self._facts.valid
+        if state == "untrusted" and self._facts is not None and self._facts.finding.other_key:
+            self.other_keys[self._facts.finding.other_key] += 1
         if state not in ("joined", "absent"):
             self.reach.pass_over(session)
 

@@ -1,6 +1,7 @@
 """Authorities: whether one of --ca or --ca-anchor issued a certificate for a host. A stranger's costs no process."""
 from __future__ import annotations
 
+import hashlib
 import re
 import tempfile
 from datetime import datetime
@@ -27,11 +28,12 @@ DOMAIN = re.compile(rb"[0-9A-Za-z_]+(-+[0-9A-Za-z_]+)*(\.[0-9A-Za-z_]+(-+[0-9A-Z
 
 
 class Authority(NamedTuple):
-    """A file of --ca, or of --ca-anchor: where it is, and its certificates by their subjects."""
+    """A file of --ca, or of --ca-anchor: where it is, its certificates by their subjects, and its SHA-256."""
 
     option: str
     path: str
     certificates: Dict[bytes, List[Certificate]]
+    sha256: str
 
     def is_anchor(self, found: Certificate) -> bool:
         """Whether a chain may end with a certificate of this file: with each of --ca-anchor, and each self-issued one."""
@@ -52,13 +54,14 @@ class Chain(NamedTuple):
 
 def read_authority(path: str, option: str = "--ca") -> Authority:
     """A file of --ca or --ca-anchor. Raises Fault where one of its keys is of DSA and can't be used."""
-    found = read_certificates(path, read_file(path, "a certificate"))
+    text = read_file(path, "a certificate")
+    found = read_certificates(path, text)
     by_subject: Dict[bytes, List[Certificate]] = {}
     for it in found:
         if it.numbers:
             key_of(it, path)
         by_subject.setdefault(it.subject, []).append(it)
-    return Authority(option, path, by_subject)
+    return Authority(option, path, by_subject, hashlib.sha256(text).hexdigest())
 
 
 def is_signed_by(leaf: x509.Certificate, issuer: x509.Certificate) -> bool:

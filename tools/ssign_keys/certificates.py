@@ -8,9 +8,10 @@ from typing import FrozenSet, List, NamedTuple, Optional, Tuple, Union
 
 from .faults import Fault
 from .files import pem_parts, read_file
-from .identity import CertificateFacts, shown_text
+from .identity import CertificateFacts
 from .kinds import what_is
 from .keys import NO_KEY, Numbers, PublicKey, numbers_of, one_line
+from .words import shown_text
 
 from cryptography import x509
 from cryptography.hazmat.primitives.asymmetric import dsa
@@ -96,8 +97,8 @@ class Certificate(NamedTuple):
 
 def shortened(text: str) -> str:
     """A text of a certificate, for a sentence."""
-    text = shown_text(text)
-    return text if len(text) <= SHOWN_LETTERS else f"{text[:SHOWN_LETTERS]} .."
+    whole = shown_text(text)
+    return whole if len(whole) <= SHOWN_LETTERS else f"{shown_text(text, SHOWN_LETTERS)} .."
 
 
 def address_of(host: bytes) -> Optional[Address]:

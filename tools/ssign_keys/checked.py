@@ -6,7 +6,7 @@ import socket
 from typing import TYPE_CHECKING, Dict, List, NamedTuple, Optional, Sequence, Tuple
 
 from .digests import Digest
-from .identity import certificate_fields, certificate_words
+from .identity import certificate_fields, certificate_words, file_words
 from .logs import Log, Packed
 from .options_given import given_options, quoted
 from .program_facts import Program
@@ -115,7 +115,7 @@ def digest_fields(digest: Optional[Digest]) -> Optional[Dict[str, object]]:
 def key_fields(given: Given) -> Dict[str, object]:
     """A key as JSON has it."""
     return {"option": given.option, "file": shown_name(given.file), "session": given.session,
-            "fingerprint": given.fingerprint, "certificate": certificate_fields(given.certificate)}
+            "fingerprint": given.fingerprint, "certificate": certificate_fields(given.certificate), "file_sha256": given.file_sha256}
 
 
 def key_words(given: Given) -> str:
@@ -123,7 +123,8 @@ def key_words(given: Given) -> str:
     session = "" if given.session is None else f" for the session {given.session}"
     key = "" if given.fingerprint is None else f", SHA-256 {given.fingerprint}"
     certificate = "" if given.certificate is None else f"; certificate {certificate_words(given.certificate)}"
-    return f"key: {given.option} {shown_name(given.file)}{session}{key}{certificate}"
+    name = shown_name(given.file) if given.file_sha256 is None else file_words(given.file, given.file_sha256)
+    return f"key: {given.option} {name}{session}{key}{certificate}"
 
 
 def digest_words(digest: Digest) -> str:

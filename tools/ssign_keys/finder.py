@@ -6,30 +6,38 @@ from typing import NamedTuple, Optional, Tuple
 from .logs import Log
 from .moments import stamp_of
 from .progress import Progress
-from .words import shown
+from .words import ROOM, shown_front
 from .wraps import LONGEST_FRONT, original_begins
 
-# how many octets of a message are shown: of a block its front, and of an unlisted message so many that a change at its
+# how many characters of a message are shown: of a block its front, and of an unlisted message so many that a change at its
 # end is seen. Each receiver should take messages of 2048 octets (RFC 5424, section 6.1)
 SHOWN, SHOWN_UNLISTED = 60, 2048
 
 
 def most_shown(kind: str) -> int:
-    """How many octets are shown of a message that is unlisted, refused or spoilt."""
+    """How many characters are shown of a message that is unlisted, refused or spoilt."""
     return SHOWN_UNLISTED if kind == "unlisted" else SHOWN
 
 
 class Found(NamedTuple):
-    """A stored message: its file, its place there, its length, the front of its text, escaped, and its TIMESTAMP."""
+    """A stored message: its file, its place there, its length, the front of its text, and its TIMESTAMP."""
 
     file: str
     place: int
     octets: int
-    text: str
+    text: bytes
     timestamp: Optional[str]
     """As the message states it; None where it isn't one of RFC 5424."""
     is_original: bool = False
     """Whether length and text are those of the original in a wrap. The TIMESTAMP is that of the wrap."""
+
+    def shown(self, most: int, room: int = ROOM) -> Tuple[str, bool]:
+        """So many first characters, as a person reads them in this room, and whether the message goes on after them.
+
+        They have to be looked up with `octets_for` as many.
+        """
+        text, octets = shown_front(self.text, most, room)
+        return text, octets < self.octets
 
 
 class Finder:
@@ -55,7 +63,7 @@ class Finder:
 
     def _found(self, place: int, octets: int, text: bytes, timestamp: Optional[str]) -> Found:
         part = self._log.part_of_place(place)
-        return Found(part.name, place - part.place, octets, shown(text), timestamp)
+        return Found(part.name, place - part.place, octets, text, timestamp)
 
     def _front(self, place: int, most: int) -> Tuple[bytes, int]:
         """So many first octets of the message at this place, and how many it has."""

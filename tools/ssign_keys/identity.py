@@ -3,7 +3,7 @@ from __future__ import annotations
 
 from typing import Any, Dict, List, NamedTuple, Optional
 
-from .words import is_seen, shown, shown_name
+from .words import shown_name, shown_text
 
 
 class CertificateFacts(NamedTuple):
@@ -29,6 +29,8 @@ class Identity(NamedTuple):
     certificate: Optional[CertificateFacts]
     stamp: str
     """The payload's time, which the signer states: a TIMESTAMP or `-`."""
+    authority: str = ""
+    """The SHA-256 of the file, if it is that of an authority; empty for a key or a certificate that was given."""
 
 
 class Finding(NamedTuple):
@@ -37,6 +39,9 @@ class Finding(NamedTuple):
     identity: Optional[Identity]
     why: str
     """A sentence without its full stop; empty where there is nothing to say."""
+    other_key: str = ""
+    """The fingerprint of the key that the payload states, if the reviewer gave others for the session, and this isn't one of them.
+    Anybody can state any key."""
 
 
 UNKNOWN = Finding(None, "")
@@ -46,10 +51,13 @@ def identity_lines(finding: Finding) -> List[str]:
     """The lines below a session for a person."""
     lines = []
     if finding.identity is not None:
-        file, fingerprint, certificate, stamp = finding.identity
-        lines.append(f"key: {shown_name(file)}, SHA-256 {fingerprint}")
+        file, fingerprint, certificate, stamp, authority = finding.identity
+        lines.append(f"key: that of the certificate, SHA-256 {fingerprint}" if authority else
+                     f"key: {shown_name(file)}, SHA-256 {fingerprint}")
         if certificate is not None:
             lines.append(f"certificate: {certificate_words(certificate)}")
+        if authority:
+            lines.append(f"authority: {file_words(file, authority)}")
         lines.append("payload: states no time" if stamp == "-" else f"payload: of {stamp}, as its signer states")
     if finding.why:
         lines.append(f"why: {finding.why}")
@@ -63,7 +71,14 @@ def identity_fields(finding: Finding) -> Dict[str, object]:
     return {
         "key": shown_name(identity.file) if identity else None, "fingerprint": identity.fingerprint if identity else None,
         "certificate": facts, "payload_time": identity.stamp if identity else None, "why": finding.why or None,
+        "authority": {"file": shown_name(identity.file), "sha256": identity.authority} if identity and identity.authority else None,
+        "other_key": finding.other_key or None,
     }
+
+
+def file_words(file: str, sha256: str) -> str:
+    """The file of an authority, whose SHA-256 isn't that of a key or a certificate."""
+    return f"{shown_name(file)}, a file with the SHA-256 {sha256}"
 
 
 def certificate_fields(certificate: Optional[CertificateFacts]) -> Optional[Dict[str, object]]:
@@ -77,24 +92,19 @@ def certificate_words(certificate: CertificateFacts) -> str:
             f"valid from {certificate.not_before} to {certificate.not_after}")
 
 
-def shown_text(text: str) -> str:
-    """A text of a certificate: letters of every language stay, and all that can't be seen becomes `\\xNN`."""
-    return "".join(it if is_seen(it) and it != "\\" else shown(it.encode("utf-8", "surrogatepass")) for it in text)
-
-
 def note_of(finding: Finding) -> List[object]:
     """A finding as JSON holds it, for `finding_of`."""
     identity = finding.identity
     if identity is None:
-        return [None, finding.why]
+        return [None, finding.why, finding.other_key]
     certificate = identity.certificate and list(identity.certificate)
-    return [[identity.file, identity.fingerprint, certificate, identity.stamp], finding.why]
+    return [[identity.file, identity.fingerprint, certificate, identity.stamp, identity.authority], finding.why, finding.other_key]
 
 
 def finding_of(note: Any) -> Finding:
     """The finding of which `note_of` made this."""
-    identity, why = note
+    identity, why, other_key = note
     if identity is None:
-        return Finding(None, why)
-    file, fingerprint, certificate, stamp = identity
-    return Finding(Identity(file, fingerprint, certificate and CertificateFacts(*certificate), stamp), why)
+        return Finding(None, why, other_key)
+    file, fingerprint, certificate, stamp, authority = identity
+    return Finding(Identity(file, fingerprint, certificate and CertificateFacts(*certificate), stamp, authority), why, other_key)

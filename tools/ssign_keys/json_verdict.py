@@ -17,7 +17,7 @@ from .strangers import NO_CLAIMS
 from .stretch_visitor import StretchVisitor
 from .finder import most_shown
 from .verdict import sentence
-from .words import shown, shown_name
+from .words import shown_name, spelled
 from .workplace import put
 
 Fields = Dict[str, Union[str, int, None]]
@@ -29,7 +29,7 @@ FINDINGS = {"lost": "missing", "disputed": "disputed", "unlisted": "unlisted", "
 def names_of(session: Session) -> Fields:
     """The four names of a session."""
     host, app, procid, rsid = session
-    return {"host": shown(host), "app": shown(app), "procid": shown(procid), "rsid": int(rsid)}
+    return {"host": spelled(host), "app": spelled(app), "procid": spelled(procid), "rsid": int(rsid)}
 
 
 class JsonVerdict(StretchVisitor):
@@ -109,7 +109,8 @@ class JsonVerdict(StretchVisitor):
         found = self._reviewed.finder.find(place, most_shown(kind))
         why: Fields = {"cause": cause} if kind == "spoilt" else {}
         self._put({"line": kind, "place": place, **why, "file": shown_name(found.file), "file_place": found.place,
-                   "timestamp": found.timestamp, "octets": found.octets, "text": found.text, "finding": FINDINGS[kind]})
+                   "timestamp": found.timestamp, "octets": found.octets, "text": spelled(found.text),
+                   "finding": FINDINGS[kind]})
 
     def damaged(self, stretch: Damaged) -> None:
         """Writes which octets are damaged."""
@@ -140,7 +141,8 @@ class JsonVerdict(StretchVisitor):
             "sessions": dict(sorted(self.states.items())), "listed": totals.listed, "missing": totals.lost,
             "disputed": totals.disputed, "unannounced": totals.unannounced, **missing, "unlisted": totals.unlisted,
             "verified": survey.verified, "unverified": totals.refused, "strangers": facts.of_strangers,
-            "strangers_ignored": facts.is_ignoring, "unbound_keys": facts.unbound, "spoilt": totals.spoilt,
+            "strangers_ignored": facts.is_ignoring, "unbound_keys": facts.unbound,
+            "other_keys": sum(facts.other_keys.values()), "spoilt": totals.spoilt,
             **broken_fields(facts.broken), "damaged": totals.damaged, "damaged_octets": totals.damaged_octets,
             "torn": totals.torn is not None,
             "groups": [self._group(it) for it in survey.reach],

@@ -19,7 +19,7 @@ from .files import open_regular, reason
 from .live_engine import LONGEST
 from .live_input import PIECE, Piece
 from .live_loop import Loop
-from .words import shown
+from .words import shown_front
 
 # the file with the cursor, in the folder of the state
 CURSOR = "journal-cursor"
@@ -202,7 +202,7 @@ class Journal:
             self._drop(end + 1)
             return NO_FIELD
         if not NAME.fullmatch(name):
-            raise Fault(f"the journal command wrote `{shown(name[:20])}` where a field begins: it has to be journalctl")
+            raise Fault(f"the journal command wrote `{shown_front(name, 20)[0]}` where a field begins: it has to be journalctl")
         if equals:
             self._drop(end + 1)
             return name, value

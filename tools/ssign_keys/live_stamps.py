@@ -20,11 +20,11 @@ from typing import IO, List, Optional
 from .der import Bad
 from .faults import Fault
 from .files import reason
-from .identity import shown_text
 from .live_disk import STATE
 from .live_log import Live, heading
 from .numbers import number
 from .stamped import ENDING, MOST_SECONDS, SECONDS, add_authorities
+from .words import shown_text
 
 COUNTERS = ".counters"
 PASSING = ".new"

@@ -32,7 +32,7 @@ from .stamped import check_stamps, refuse_lone
 from .summaries import FEW, Runs
 from .trust import read_public_keys
 from .verdict import unbound
-from .words import grouped, shown, shown_name
+from .words import grouped, shown, shown_name, spelled
 from .workplace import Workplace, finish, put
 
 # options of `verify` that speak of one log, each with the name of its value
@@ -102,7 +102,7 @@ class Judged:
         """As JSON has it."""
         host, app, procid, rsid = self.entry.session
         return {"line": "night", "night": self.number, "entry": self.entry.number, "name": shown_name(self.entry.name),
-                "host": shown(host), "app": shown(app), "procid": shown(procid), "rsid": int(rsid), "status": self.status,
+                "host": spelled(host), "app": spelled(app), "procid": spelled(procid), "rsid": int(rsid), "status": self.status,
                 "listed": self.listed, "verdict": self.said}
 
 
@@ -186,7 +186,7 @@ class Verdict:
         groups = []
         for session, (sg, spri), last in self._groups():
             host, app, procid, rsid = session
-            groups.append({"host": shown(host), "app": shown(app), "procid": shown(procid), "rsid": int(rsid), "sg": sg,
+            groups.append({"host": spelled(host), "app": spelled(app), "procid": spelled(procid), "rsid": int(rsid), "sg": sg,
                            "spri": spri, "last": last})
         left_out = {"left_out": self.left_out} if self.left_out else {}
         return {"line": "verdict", "status": self.status, "verdict": self.sentence(), "nights": len(self.judged),
@@ -413,7 +413,7 @@ def vouched_in(sessions: Sequence[bytes], entry: Entry) -> Optional[Vouched]:
     """What vouches for the session of an entry, by these objects of JSON."""
     host, app, procid, rsid = entry.session
     for it in map(json.loads, sessions):
-        if [it[name] for name in ("host", "app", "procid", "rsid")] == [shown(host), shown(app), shown(procid), int(rsid)]:
+        if [it[name] for name in ("host", "app", "procid", "rsid")] == [spelled(host), spelled(app), spelled(procid), int(rsid)]:
             certificate = it["certificate"]
             return Vouched(str(it["fingerprint"]), certificate and str(certificate["fingerprint"]), str(it["payload_time"]))
     return None

@@ -25,7 +25,7 @@ from .strips import DRAWN, FINE, Strip
 from .summaries import FEW
 from .text_verdict import (STATES, after_words, group_words, neighbours_words, octets_words, order_words, place_words,
                            times_words)
-from .words import grouped, shown_name
+from .words import grouped, octets_for, shown_name
 
 # the first octets of a page, by which one is known
 FRONT = front_of("ssign-keys verify --html")
@@ -286,16 +286,14 @@ class Page(Weighed):
         return [named(run.words(self.has_one_group)), between, joined(f"{run.cause}: ", what) if run.cause else what]
 
     def _text(self, place: int, kind: str) -> Markup:
-        """The text of a message as JSON has it, or less of it where all texts together are too long."""
+        """The front of a message, or less of it where all texts together are too long."""
         most = most_shown("unlisted" if kind not in STRAYS.values() else kind)
-        found = self._reviewed.finder.find(place, most)
-        text, rest = found.text, ""
+        found = self._reviewed.finder.find(place, octets_for(most))
+        text, is_cut = found.shown(most)
         if len(text) > max(self._text_left, SHORT_TEXT):
-            text, rest = text[:SHORT_TEXT], " .."
+            text, is_cut = found.shown(most, SHORT_TEXT)
         self._text_left -= len(text)
-        if rest or found.octets > most:
-            rest = f" .. ({grouped(found.octets, 'octet')})"
-        return joined(code(text), rest)
+        return joined(code(text), f" .. ({grouped(found.octets, 'octet')})" if is_cut else "")
 
     def _sessions_part(self) -> Markup:
         """The sessions that are joined."""

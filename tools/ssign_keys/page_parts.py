@@ -71,7 +71,7 @@ def foot(checked: Checked) -> str:
     """The style of what stands below each sheet of paper: the first log with its SHA-256, and the sheet's number."""
     digest, more = checked.logs[0].digest, len(checked.logs) - 1
     others = f", and {grouped(more, 'more log')}" if more else ""
-    text = f"{shown_name(digest.name)[:MOST_NAME]}, SHA-256 {digest.sha256}{others}"
+    text = f"{shown_name(digest.name, MOST_NAME)}, SHA-256 {digest.sha256}{others}"
     font = "font:7pt system-ui,sans-serif"
     return (f'@page{{@bottom-left{{content:"{css_text(text)}";{font}}}'
             f'@bottom-right{{content:counter(page) " / " counter(pages);{font}}}}}\n')

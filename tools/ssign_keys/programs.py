@@ -15,7 +15,7 @@ from . import VERSION
 from .commands import PATIENCE
 from .faults import Fault
 from .progress import Progress
-from .words import shown, shown_name
+from .words import shown_front, shown_name
 from .workplace import Workplace, finish, notify, put
 
 # `ssign: F1 0`, the line of a refusal
@@ -61,8 +61,8 @@ def find_program(arguments: argparse.Namespace) -> str:
         raise Fault("there is no program ssign here: name it with --ssign, or with the variable SSIGN")
     version = said(program, "--version")
     if version is not None and version != f"ssign {VERSION}":
-        raise Fault(f"the program {shown_name(program)} is {shown(os.fsencode(version))[:LONGEST]}, and it has to be "
-                    f"ssign {VERSION}: name that with --ssign")
+        front, _ = shown_front(os.fsencode(version), LONGEST, LONGEST)
+        raise Fault(f"the program {shown_name(program)} is {front}, and it has to be ssign {VERSION}: name that with --ssign")
     return str(program)
 
 

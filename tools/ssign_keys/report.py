@@ -15,7 +15,7 @@ from .damage import Damage, Damaged
 from .faults import Fault
 from .kept import Counters
 from .progress import Progress
-from .words import shown
+from .words import shown_front
 
 # lines are read by so many octets, so that a long stretch of `ok` lines is taken at once; fewer than the least are taken
 # line by line
@@ -191,7 +191,8 @@ def number_of(field: bytes) -> int:
 
 def text_of(octets: bytes) -> str:
     """The front of a line, or of a field, for a complaint."""
-    return f"'{shown(octets[:SHOWN])}{' ..' if len(octets) > SHOWN else ''}'"
+    text, taken = shown_front(octets, SHOWN)
+    return f"'{text}{' ..' if taken < len(octets) else ''}'"
 
 
 class Reading:

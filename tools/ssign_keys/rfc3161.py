@@ -18,10 +18,10 @@ from .der import Bad, Item
 from .digests import Digest
 from .faults import Fault
 from .files import read_file
-from .identity import CertificateFacts, certificate_fields, shown_text
+from .identity import CertificateFacts, certificate_fields
 from .payloads import present_stamp
 from .trust import Given
-from .words import grouped, shown_name
+from .words import grouped, shown_name, shown_text
 from .workplace import Workplace, finish, put
 
 from cryptography.hazmat.primitives.serialization import Encoding
@@ -137,17 +137,18 @@ def read_authorities(paths: Sequence[str], anchors: Sequence[str]) -> Authoritie
 
     One that is for other uses alone is no anchor and no helper, because openssl doesn't look at that above a service.
     """
-    found = [(option, path, it) for option, names in (("--tsa-ca", paths), ("--tsa-ca-anchor", anchors)) for path in names
-             for it in read_certificates(path, read_file(path, "a certificate"))]
+    files = [(option, path, read_file(path, "a certificate"))
+             for option, names in (("--tsa-ca", paths), ("--tsa-ca-anchor", anchors)) for path in names]
+    found = [(Given(option, path, None, None, it.facts, hashlib.sha256(text).hexdigest()), it)
+             for option, path, text in files for it in read_certificates(path, text)]
     these: Dict[bool, List[Certificate]] = {True: [], False: []}
-    for option, _, it in found:
+    for given, it in found:
         if TIME_STAMPING <= it.uses:
-            these[option == "--tsa-ca-anchor" or it.is_self_issued].append(it)
+            these[given.option == "--tsa-ca-anchor" or it.is_self_issued].append(it)
     if not these[True]:
         raise Fault("no certificate of --tsa-ca is self-issued and may issue those for time stamps, so no chain can end: add the "
                     "root's, or give the file by --tsa-ca-anchor")
-    given = [Given(option, path, None, None, it.facts) for option, path, it in found]
-    return Authorities(given, these[True], these[False], bool(anchors))
+    return Authorities([given for given, _ in found], these[True], these[False], bool(anchors))
 
 
 def pem(these: Sequence[Certificate]) -> bytes:

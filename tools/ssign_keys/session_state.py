@@ -15,6 +15,7 @@ from typing import Optional, Type
 from .counters_file import lines_of
 from .faults import Fault
 from .files import open_lock, open_regular, reason
+from .live_state import FILES
 from .rotation_state import replace, sync_folder
 from .session_file import MOST_RSID, START, Ends, Ongoing, read_ends, read_ongoing
 from .words import shown_name
@@ -111,6 +112,8 @@ class SessionState:
         """The session in the file, or None where there is no such file."""
         try:
             text = read_plain(self.path(SESSION))
+            if text is None:
+                self._refuse_live()
             return None if text is None else read_ongoing(text)
         except PermissionError as fault:
             raise Fault(f"the session {shown_name(self.path(SESSION))} can't be read: {reason(fault)}") from fault
@@ -118,6 +121,11 @@ class SessionState:
             raise self._unreadable(f"can't be read: {reason(fault)}") from fault
         except ValueError as fault:
             raise self._unreadable(f"isn't as it was written: {fault}") from fault
+
+    def _refuse_live(self) -> None:
+        """Refuses a folder of `live`, which would refuse it for ever once a session of this kind is begun there."""
+        if any(os.path.lexists(self.path(it)) for it in FILES):
+            raise Fault("the folder of --state is one of `ssign-keys live`: name another one")
 
     def _unreadable(self, what: str) -> Fault:
         """What is said of a session that can't be used."""

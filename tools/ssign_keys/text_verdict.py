@@ -23,7 +23,7 @@ from .summaries import FEW, Few, Runs
 from .verdict import sentence
 from .block_facts import BlockFacts
 from .walk import read_at
-from .words import grouped, shown, shown_name
+from .words import grouped, octets_for, shown, shown_name
 from .workplace import put
 
 # a text of more lines has the verdict in front too
@@ -360,9 +360,11 @@ class TextVerdict(Weighed):
 
     def _text(self, place: int, kind: str) -> str:
         # what is said of the text stands in front of its colon, where no text of a log can stand
-        found = self._reviewed.finder.find_original(place, most_shown(kind))
-        more = f" .. ({found.octets:,} octets)" if found.octets > most_shown(kind) else ""
-        return f"{', in a wrap' if found.is_original else ''}: {found.text}{more}"
+        most = most_shown(kind)
+        found = self._reviewed.finder.find_original(place, octets_for(most))
+        text, is_cut = found.shown(most)
+        more = f" .. ({found.octets:,} octets)" if is_cut else ""
+        return f"{', in a wrap' if found.is_original else ''}: {text}{more}"
 
     def _end_list(self) -> None:
         if not self._kind:

@@ -35,6 +35,8 @@ class Trusted(NamedTuple):
     key: PublicKey
     certificate: Optional[Certificate]
     """The certificate that says so, where one does."""
+    authority: str = ""
+    """The SHA-256 of the file, if its authority issued the certificate."""
 
 
 class Judged(NamedTuple):
@@ -57,6 +59,8 @@ class Given(NamedTuple):
     fingerprint: Optional[str]
     """The SHA-256 of the key's SubjectPublicKeyInfo in DER; None for an authority."""
     certificate: Optional[CertificateFacts]
+    file_sha256: Optional[str] = None
+    """The SHA-256 of the file of an authority; None for a key."""
 
 
 class SessionKey(NamedTuple):
@@ -218,7 +222,7 @@ class Trust:
                     getattr(arguments, "max_payload", LONGEST_PAYLOAD))
         given += [given_key("--session-key", it.trusted, str(it.pattern)) for it in session_keys]
         given += [given_key("--cert", it, None) for it in signers.values()]
-        given += [Given(it.option, it.path, None, None, certificate.facts) for it in authorities
+        given += [Given(it.option, it.path, None, None, certificate.facts, it.sha256) for it in authorities
                   for found in it.certificates.values() for certificate in found]
         trust.given = given
         return trust
@@ -232,6 +236,13 @@ class Trust:
     def has_one_key(self) -> bool:
         """Whether the reviewer trusts one key by its file, and nothing else."""
         return len(self._keys) == 1 and not (self._session_keys or self._authorities or self._signers)
+
+    @property
+    def given_words(self) -> str:
+        """How a sentence begins that a key isn't one that the reviewer gave for a session."""
+        if len({it.numbers for it in (*self._any_session, *(it.trusted.key for it in self._session_keys))}) == 1:
+            return "the key that you gave isn't"
+        return "no key that you gave for it is" if self._session_keys else "none of the keys that you gave is"
 
     @property
     def has_authorities(self) -> bool:
@@ -262,8 +273,21 @@ class Trust:
         if last is None or last[0] is not stated or last[1] != session:
             trusted, why, _ = self._judge_stated(stated, session)
             identity = identity_of(trusted, stated.payload.stamp) if trusted else None
-            last = self._last_judged = stated, session, Judged(trusted, why, Finding(identity, why))
+            other = "" if trusted else self._other_key(stated, session)
+            last = self._last_judged = stated, session, Judged(trusted, why, Finding(identity, why, other))
         return last[2]
+
+    def _other_key(self, stated: Stated, session: Optional[Session]) -> str:
+        """The fingerprint of the key that a payload states, if the reviewer gave others for the session, and none is this one.
+
+        A certificate may be refused for more than its key if authorities are trusted.
+        """
+        given = next((it.trusted.key for it in self._session_keys if session and it.is_for(session)), None)
+        keys = [given] if given else self._any_session
+        if not keys or stated.numbers is None or any(it.numbers == stated.numbers for it in keys):
+            return ""
+        is_for_authorities = given is None and self._authorities and stated.payload.type == CERTIFICATE
+        return "" if is_for_authorities else stated_fingerprint(stated.numbers) or ""
 
     def is_valid(self, payload: bytes, octets: bytes, signature: bytes) -> bool:
         """Whether this is the signature of a block's octets by the key that is trusted for its session."""
@@ -369,7 +393,7 @@ class Trust:
         if why or not found.numbers:
             return Judged(None, why)
         try:
-            return Judged(Trusted(chain.authority.path, PublicKey(found.numbers), found), "")
+            return Judged(Trusted(chain.authority.path, PublicKey(found.numbers), found, chain.authority.sha256), "")
         except NO_KEY as fault:
             return Judged(None, f"the key of its certificate can't be used: {one_line(fault)}")
 
@@ -383,7 +407,7 @@ def given_key(option: str, trusted: Trusted, session: Optional[str]) -> Given:
 def identity_of(trusted: Trusted, stamp: str) -> Identity:
     """Whose key it is that a payload with this time states."""
     facts = trusted.certificate.facts if trusted.certificate else None
-    return Identity(trusted.name, trusted.key.fingerprint, facts, stamp)
+    return Identity(trusted.name, trusted.key.fingerprint, facts, stamp, trusted.authority)
 
 
 def unknown_key(numbers: Optional[Numbers]) -> str:

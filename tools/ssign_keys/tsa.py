@@ -15,8 +15,8 @@ from urllib.parse import SplitResult, urljoin, urlsplit
 from . import VERSION
 from .faults import Fault
 from .files import reason
-from .identity import shown_text
 from .rfc3161 import LONGEST
+from .words import shown_text
 from .workplace import Workplace
 
 SCHEMES = ("http", "https")

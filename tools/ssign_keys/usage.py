@@ -21,7 +21,7 @@ from . import VERSION
 from .faults import Fault
 from .files import OTHERS_WRITE
 from .output import need_standard_files, print_text
-from .words import shown, shown_name
+from .words import shown_line, shown_name
 from .workplace import notify
 
 HELP = "print this help, or that of a command"
@@ -167,5 +167,4 @@ def main(tool: Tool, words: Sequence[str]) -> int:
 
 def complain(tool: Tool, sentence: str) -> None:
     """Says why there is no verdict. Words of the command line may hold what a terminal takes for a command."""
-    notify(f"{tool.name}: " + "".join(it if it.isprintable() else shown(it.encode("utf-8", "surrogateescape"))
-                                   for it in sentence))
+    notify(f"{tool.name}: {shown_line(sentence)}")

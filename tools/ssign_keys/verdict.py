@@ -18,6 +18,10 @@ from .summaries import FEW
 from .words import grouped
 
 NOTHING = "Nothing in this log is shown to be authentic. Whatever was signed may have been taken out."
+WRONG = "Nothing in this log is shown to be authentic. Either you gave the wrong key, or the log isn't as it was signed: anybody can " \
+    "write one that states another key."
+# so many keys of strangers are named
+MOST_KEYS = 3
 # what to do where ssign found nothing wrong, and nothing is listed
 SILENT = "A night without a message looks the same: `ssign-keys verify --nights MANIFEST FOLDER` judges it by its entry, beside the " \
     "other nights."
@@ -55,6 +59,17 @@ class Facts:
     unbound: List[str] = field(default_factory=list)
     """The file of each key that could have signed any session, as it is shown; empty where there is one such key."""
 
+    other_keys: Dict[str, int] = field(default_factory=dict)
+    """The fingerprint of each key that is none of those that the reviewer gave, and how many untrusted sessions state it."""
+    given: str = "no key that you gave is"
+    """What the reviewer gave in place of them, in front of `the one that its signer states`."""
+
+    @property
+    def is_of_other_keys(self) -> bool:
+        """Whether each session states another key than the reviewer gave, and none is missing as a whole."""
+        count = sum(self.other_keys.values())
+        return count > 0 and count == sum(self.states.values())
+
     @property
     def of_strangers(self) -> int:
         """How many unverified blocks claim joined sessions."""
@@ -87,10 +102,15 @@ def sentence(facts: Facts) -> str:
         said = findings(facts)
     said += order(facts.totals) + facts.broken.sentences()
     if not facts.totals.listed:
-        said += f" {NOTHING}"
+        said += f" {nothing(facts)}"
         if facts.review_status == 0 and "joined" in facts.states and not facts.manifest_findings:
             said += f" {SILENT}"
     return " ".join([said + covered(facts), *unbound(facts.unbound), *facts.stamps])
+
+
+def nothing(facts: Facts) -> str:
+    """What is said of a log in which nothing is listed. If the key is another one, what is missing can't be known."""
+    return WRONG if facts.is_of_other_keys else NOTHING
 
 
 def clean(facts: Facts) -> str:
@@ -121,9 +141,17 @@ def contents(facts: Facts) -> str:
     if stored == 0:
         return f"{'its one message is' if totals.messages == 1 else f'of its {totals.messages:,} messages none is'} " \
                f"{'no block' if totals.messages == 1 else 'a block'}"
+    if facts.is_of_other_keys:
+        return f"{wrong_key(facts)}, so no block is verified"
     if "joined" not in facts.states:
         return "no session here is joined, so no block is verified"
     return announced(totals)
+
+
+def wrong_key(facts: Facts) -> str:
+    """Of a log whose sessions all state other keys than the reviewer gave."""
+    one, whose = ("the one", "its signer states") if len(facts.other_keys) == 1 else ("one", "its signers state")
+    return f"{facts.given} {one} that {whose} ({keys_words(facts.other_keys)})"
 
 
 def announced(totals: Totals) -> str:
@@ -157,12 +185,29 @@ def other_findings(facts: Facts) -> List[str]:
         strangers.late_words(facts.late) if facts.are_strangers_ignored else "",
         several(totals.spoilt, "message is a spoilt block", "messages are spoilt blocks"),
         damage(totals),
-        several(unjoined, "session isn't joined", "sessions aren't joined"),
+        several(unjoined, "session isn't joined", "sessions aren't joined") + stating(facts, unjoined),
         several(absent, "session that the counters name isn't here", "sessions that the counters name aren't here"),
         sha1.finding(facts.on_sha1),
         several(facts.manifest_findings, "difference from the manifest", "differences from the manifest"),
         "the log breaks off" if totals.torn is not None and totals.messages else "",
     ]
+
+
+def stating(facts: Facts, unjoined: int) -> str:
+    """How many of the sessions that aren't joined state another key than the reviewer gave, if that isn't said in front."""
+    count = sum(facts.other_keys.values())
+    if not count or facts.is_of_other_keys:
+        return ""
+    states = "states" if count == 1 else "state"
+    whose = f"{count:,} of them" if count < unjoined else "it" if count == 1 else "they"
+    one = "a key" if len(facts.other_keys) == 1 else "keys"
+    return f": {whose} {states} {one} that you didn't give ({keys_words(facts.other_keys)})"
+
+
+def keys_words(fingerprints: Dict[str, int]) -> str:
+    """The first few keys by their fingerprints, and how many more there are."""
+    more = f", and {len(fingerprints) - MOST_KEYS:,} more" if len(fingerprints) > MOST_KEYS else ""
+    return f"SHA-256 {', '.join(list(fingerprints)[:MOST_KEYS])}{more}"
 
 
 def damage(totals: Totals) -> str:

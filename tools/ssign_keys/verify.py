@@ -46,7 +46,7 @@ from .salvage import SALVAGE, salvage
 from .finder import Finder
 from .stamped import NONE, Stamps, check_stamps
 from .trust import Trust
-from .verdict import NOTHING, Facts
+from .verdict import Facts, nothing, wrong_key
 from .block_facts import Notes, noted
 from .words import shown_name
 from .workplace import Workplace, finish, put, notify
@@ -331,7 +331,8 @@ class Verifier:
                       self._broken_blocks(survey), 0 if listed is None else listed.compare(),
                       survey.on_sha1, arguments.allow_sha1, begin is not None, stamps.sentences,
                       strangers.count_strangers(self._candidates, survey.refused, survey.joined, survey.reach),
-                      arguments.ignore_strangers, survey.has_others, [shown_name(it) for it in trust.unbound_files(survey.joined)])
+                      arguments.ignore_strangers, survey.has_others, [shown_name(it) for it in trust.unbound_files(survey.joined)],
+                      dict(survey.other_keys), trust.given_words)
         finder = Finder(self._log, self._progress)
         return Reviewed(self._log, finder, self._read_notes(), survey, facts, is_whole, counters, begin)
 
@@ -419,8 +420,10 @@ class Verifier:
             listed.notify()
         if facts.on_sha1 and not arguments.allow_sha1 and facts.review_status == 0:
             sha1.say_finding(facts.on_sha1)
+        if facts.is_of_other_keys:
+            notify(f"ssign-keys: {wrong_key(facts)}")
         if not facts.totals.listed:
-            notify(f"ssign-keys: {NOTHING}")
+            notify(f"ssign-keys: {nothing(facts)}")
         if facts.is_ignoring:
             notify(f"ssign-keys: {strangers.ignored_words(facts.of_strangers)}")
         for it in facts.stamps:
