@@ -1,16 +1,20 @@
 -- The payloads that lines trust: which they are, and how they are found among lines in order.
 use Rattle.std.proofs.Common.{◌≡◌, ℕ, suc, ◌+◌, ◌<◌, ◌≤◌, Bool, true, false, eqb, cond, ◌||◌, List, [], ◌∷◌, ◌++◌, length, get_or, Option, Some, None, sym, refl, ap, ◌∙◌, arith, append_assoc}
 use Rattle.std.specs.List.{AllByRecursion, IsDistinct, cons_option, find, list_any}
+use Rattle.std.specs.List.Sorted.{IsStrictlySortedBy}
+use Rattle.std.specs.Cmp.Lexicographic.{slice_cmp}
 use Rattle.std.specs.Str.{bytes_eq}
-use Rattle.std.specs.Ordering.{is_eq, is_lt, ordering_index}
+use Rattle.std.specs.Ordering.{is_eq, is_lt, nat_cmp, ordering_index, ordering_reverse, ordering_then}
 use Rattle.std.specs.declared.cmp.Ordering.{Ordering}
 use Rattle.std.specs.declared.cmp.Ordering.TheVariants.{Less, Equal, Greater}
 use Rattle.std.proofs.lemmas.Bool.Decides.{nat_tests}
+use Rattle.std.proofs.lemmas.Cmp.{nat_list_cmp_total}
+use Rattle.std.proofs.lemmas.Map.Text.{is_eq-slice_cmp}
 use Rattle.std.proofs.lemmas.Slice.Eq.{bytes_eq-Decides}
 use Rattle.ss_answers.specs.declared.place.Place.{Place}
-use Rattle.ss_answers.specs.Answers.{Answer, Seal, Trust, Yes, PayloadsAreThoseTrusted, is_trust, last_trust, payloads_of, trusted, trusted_payload}
-use Rattle.ss_answers.specs.AnswerKey.{key_of, trust_key}
-use Rattle.ss_answers.specs.AnswerLine.{IsInOrder, answer_at, answer_by_fields, answers_at, has_key}
+use Rattle.ss_answers.specs.Answers.{Answer, Seal, Trust, Yes, PayloadsAreThoseTrusted, Rise, is_trust, last_trust, payloads_of, trusted, trusted_payload}
+use Rattle.ss_answers.specs.AnswerKey.{key_cmp, key_of, trust_key}
+use Rattle.ss_answers.specs.AnswerLine.{IsInOrder, answer_at, answer_by_fields, answers_at, has_key, place_key}
 use Rattle.ss_answers.proofs.OrderedLines.{against, find_absent, has_key-answer, has_trust_key, is_before, is_below, rising, trusted_from_find}
 
 -- ---- what a line trusts, by its fields
@@ -123,6 +127,10 @@ pub cons_option-append : {X : Type 0} (front : List X) (o : Option X) (rest : Li
 cons_option-append front None rest = append_assoc front [] rest
 cons_option-append front (Some x) rest = append_assoc front (x ∷ []) rest
 
+pub none_left : {X : Type 0} (xs : List X) → length xs ≡ 0 → xs ≡ []
+none_left [] h = refl
+none_left (x ∷ xs) h = absurd (omega arith)
+
 -- ---- which payloads they are
 
 same : (p q : List ℕ) → bytes_eq p q ≡ true → p ≡ q
@@ -157,3 +165,66 @@ once (Trust p ∷ lines) =
 
 pub payloads_are_those_trusted : PayloadsAreThoseTrusted
 payloads_are_those_trusted lines = record { among = among lines; once = once lines }
+
+-- ---- they rise
+
+not_lt-then : (o : Ordering) → is_lt (ordering_then (ordering_then o Equal) Equal) ≡ is_lt o
+not_lt-then Less = refl
+not_lt-then Equal = refl
+not_lt-then Greater = refl
+
+greater : (o : Ordering) → is_lt o ≡ false → is_eq o ≡ false → ordering_reverse o ≡ Less
+greater Less h k = cc
+greater Equal h k = cc
+greater Greater h k = refl
+
+first_false : (a b : Bool) → (a || b) ≡ false → a ≡ false
+first_false true b h = cc
+first_false false b h = refl
+
+second_false : (a b : Bool) → (a || b) ≡ false → b ≡ false
+second_false true b h = cc
+second_false false b h = h
+
+-- another payload that isn't before this one is after it
+after : (p q : List ℕ) → is_lt (key_cmp (trust_key q) (trust_key p)) ≡ false → bytes_eq q p ≡ false → slice_cmp nat_cmp p q ≡ Less
+after p q low other =
+    nat_list_cmp_total.antisymm p q
+    ∙ greater (slice_cmp nat_cmp q p) (sym (not_lt-then (slice_cmp nat_cmp q p)) ∙ low) (is_eq-slice_cmp q p ∙ other)
+
+-- the line's key isn't below that of a line which trusts the payload
+abbrev IsNotBelow : List ℕ → Answer → Type 0
+IsNotBelow p line = is_lt (key_cmp (key_of line) (trust_key p)) ≡ false
+
+all_after : (p : List ℕ) (lines : List Answer) → AllByRecursion (IsNotBelow p) lines → trusted lines p ≡ false
+    → AllByRecursion (λ q. slice_cmp nat_cmp p q ≡ Less) (payloads_of lines)
+all_after p [] up other = tt
+all_after p (Yes q o s ∷ lines) up other = all_after p lines up.1 other
+all_after p (Seal o s ∷ lines) up other = all_after p lines up.1 other
+all_after p (Trust q ∷ lines) up other =
+    let differs : bytes_eq q p ≡ false = first_false (bytes_eq q p) (trusted lines p) other in
+    let rest = all_after p lines up.1 (second_false (bytes_eq q p) (trusted lines p) other) in
+    elim (trusted lines q) as (λ b. AllByRecursion (λ r. slice_cmp nat_cmp p r ≡ Less) (cons_option (cond b None (Some q)) (payloads_of lines))) [ true ↦ rest | false ↦ (after p q up.0 differs, rest) ]
+
+all_above : (bytes p : List ℕ) (places : List Place)
+    → ((k : ℕ) (d : Place) → k < length places → is_below bytes (trust_key p) (get_or places k d) ≡ false)
+    → AllByRecursion (IsNotBelow p) (answers_at bytes places)
+unfolding place_key
+all_above bytes p [] h = tt
+all_above bytes p (x ∷ places) h = (h 0 x (omega arith), all_above bytes p places (λ k d short. h (suc k) d (omega arith)))
+
+rise_on : (line : Answer) (lines : List Answer) → ((p : List ℕ) → trusted_payload line ≡ Some p → AllByRecursion (IsNotBelow p) lines)
+    → Rise (payloads_of lines) → Rise (payloads_of (line ∷ lines))
+unfolding IsStrictlySortedBy
+rise_on (Yes q o s) lines up rest = rest
+rise_on (Seal o s) lines up rest = rest
+rise_on (Trust p) lines up rest =
+    (elim (trusted lines p) as (λ b. trusted lines p ≡ b → Rise (cons_option (cond b None (Some p)) (payloads_of lines))) [ true ↦ λ e. rest | false ↦ λ e. (all_after p lines (up p refl) e, rest) ]) refl
+
+pub payloads_rise : (bytes : List ℕ) (places : List Place) → IsInOrder bytes places → Rise (payloads_of (answers_at bytes places))
+unfolding IsStrictlySortedBy
+payloads_rise bytes [] order = tt
+payloads_rise bytes (x ∷ places) order =
+    rise_on (answer_at bytes x) (answers_at bytes places)
+    (λ p trusts. all_above bytes p places (λ k d short. none_below bytes x places p order trusts k d short))
+    (payloads_rise bytes places (in_order_after bytes x places order))

@@ -5,7 +5,7 @@ use Rattle.ss_answers.specs.declared.fault.AnswerFault.TheVariants.{BadLine, Rea
 use Rattle.ss_answers.specs.declared.input.InputFault.{InputFault}
 use Rattle.ss_answers.specs.declared.input.InputFault.TheVariants as inputs
 use Rattle.ss_answers.specs.Input.{GivesAll, GivesMore}
-use Rattle.ss_answers.specs.Answers.{Answer, HasFirstBadLine, HasLines, SaysTheSame, payloads_of}
+use Rattle.ss_answers.specs.Answers.{Answer, HasFirstBadLine, HasLines, Rise, SaysTheSame, payloads_of}
 
 -- a file that wasn't read gives no answers
 abbrev pub answer_fault : InputFault → AnswerFault
@@ -69,11 +69,12 @@ pub record AreOfFile (answers : List Answer) : Type 0 where
   pub has : HasLines text lines
   pub same : SaysTheSame lines answers
 
--- the payloads are those that the lines of such a text trust
+-- the payloads are those that the lines of such a text trust, in the order of their octets
 pub record ArePayloadsOfFile (payloads : List (List ℕ)) : Type 0 where
   pub answers : List Answer
   pub of_file : AreOfFile answers
   pub are : payloads ≡ payloads_of answers
+  pub rise : Rise payloads
 
 -- The octets that an opened file holds, where they are known, give these answers. How many of them are left is open.
 abbrev pub AreHeld : Option (List ℕ) → List Answer → Type 0
@@ -83,11 +84,12 @@ AreHeld held answers = (left : Option (List ℕ)) × AreRead held left 429496729
 abbrev pub IsHeldFault : Option (List ℕ) → AnswerFault → Type 0
 IsHeldFault held fault = (left : Option (List ℕ)) × IsAnswerFault held left 4294967295 fault
 
--- the payloads are those that the lines of such a file trust
+-- the payloads are those that the lines of such a file trust, in the order of their octets
 pub record ArePayloadsHeld (held : Option (List ℕ)) (payloads : List (List ℕ)) : Type 0 where
   pub answers : List Answer
   pub gives : AreHeld held answers
   pub are : payloads ≡ payloads_of answers
+  pub rise : Rise payloads
 
 -- what a fault says about a file
 abbrev pub IsFileFault : AnswerFault → Type 0

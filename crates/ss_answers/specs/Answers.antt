@@ -3,6 +3,9 @@
 use Rattle.std.specs.Prelude.{◌≡◌, ℕ, ◌<◌, Bool, false, ◌&&◌, List, ◌∷◌, ◌++◌, length, codes, Option, Some, None}
 use Rattle.std.specs.Prelude.{[], if◌then◌else◌, option_and_then}
 use Rattle.std.specs.List.{IsDistinct, cons_option, find, list_any}
+use Rattle.std.specs.List.Sorted.{IsStrictlySortedBy}
+use Rattle.std.specs.Cmp.Lexicographic.{slice_cmp}
+use Rattle.std.specs.Ordering.{nat_cmp}
 use Rattle.std.specs.Str.{bytes_eq}
 use Rattle.base64.specs.GeneralPurpose.{IsBytes}
 use Rattle.ss_octets.specs.Ascii.{sp}
@@ -140,6 +143,10 @@ last_trust (Seal o s) lines = None
 abbrev pub payloads_of : List Answer → List (List ℕ)
 payloads_of [] = []
 payloads_of (line ∷ lines) = cons_option (last_trust line lines) (payloads_of lines)
+
+-- each payload is before those after it, in the order of their octets
+abbrev pub Rise : List (List ℕ) → Type 0
+Rise payloads = IsStrictlySortedBy (slice_cmp nat_cmp) payloads
 
 -- a payload is among them exactly if some line trusts it, and no two of them are equal
 pub record AreThoseTrusted (lines : List Answer) (payloads : List (List ℕ)) : Type 0 where

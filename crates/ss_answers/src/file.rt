@@ -52,7 +52,7 @@ pub fn open_answers<R: Files + AllocGlobal>(rt: &R, path: &str) -> Result<Answer
     answers_from(rt.alloc(), fs::open(rt, path))
 }
 
-/// The payloads that the lines `trust PAYLOAD` of an answers file trust, each once.
+/// The payloads that the lines `trust PAYLOAD` of an answers file trust, each once, in the order of their octets.
 ///
 /// # Errors
 ///
@@ -69,8 +69,8 @@ pub fn answers_from<F: Read + Drop>(
     alloc: Global,
     opened: io::Result<F>,
 ) -> Result<Answers, AnswerFault>
-    ensures unopened { IfErr opened.entry (λ _. result ≡ Err AnswerFault.Read) }
-    ensures opened { IfOk opened.entry (λ file. MatchResult result
+    ensures unopened { IfErr opened (λ _. result ≡ Err AnswerFault.Read) }
+    ensures opened { IfOk opened (λ file. MatchResult result
         (AreHeld (F.remaining file))
         (IsHeldFault (F.remaining file))) }
 {
@@ -86,8 +86,8 @@ pub fn payloads_from<F: Read + Drop>(
     alloc: Global,
     opened: io::Result<F>,
 ) -> Result<Vec<Bytes>, AnswerFault>
-    ensures unopened { IfErr opened.entry (λ _. result ≡ Err AnswerFault.Read) }
-    ensures opened { IfOk opened.entry (λ file. MatchResult result
+    ensures unopened { IfErr opened (λ _. result ≡ Err AnswerFault.Read) }
+    ensures opened { IfOk opened (λ file. MatchResult result
         (λ payloads. ArePayloadsHeld (F.remaining file) payloads.items)
         (IsHeldFault (F.remaining file))) }
 {

@@ -2,7 +2,7 @@
 ghost use Rattle.std.specs.Prelude.{◌≡◌, [], ◌∷◌, ◌++◌, Option, IfOk, OnOk};
 ghost use Rattle.std.specs.List.{cons_option, find};
 ghost use Rattle.std.specs.Option.{option_copied};
-ghost use Rattle.ss_answers.specs.Answers.{SaysTheSame, last_trust, payloads_of};
+ghost use Rattle.ss_answers.specs.Answers.{Rise, SaysTheSame, last_trust, payloads_of};
 ghost use Rattle.ss_answers.specs.AnswerKey.{sort_key};
 ghost use Rattle.ss_answers.specs.AnswerLine.{answer_at, answers_at, has_key, IsInOrder};
 
@@ -39,7 +39,7 @@ impl Model for Answers {
 
 impl Answers {
     ghost use Rattle.std.specs.Prelude.{◌≡◌, Some, None, Err, IfOk, IfErr};
-    ghost use Rattle.ss_answers.specs.Answers.{SaysTheSame, payloads_of, trusted, valid, seal_of};
+    ghost use Rattle.ss_answers.specs.Answers.{Rise, SaysTheSame, payloads_of, trusted, valid, seal_of};
     ghost use Rattle.ss_answers.specs.AnswerLine.{answers_of, IfRefused};
 
     /// The answers that lines give.
@@ -97,13 +97,14 @@ impl Answers {
         }
     }
 
-    /// The payloads that lines trust, each once.
+    /// The payloads that lines trust, each once, in the order of their octets.
     ///
     /// # Errors
     ///
     /// Only out of memory.
     pub fn payloads(&self, alloc: Global) -> Result<Vec<Bytes>, AllocError>
-        ensures { IfOk result (λ payloads. payloads.items ≡ payloads_of self.now) }
+        ensures are { IfOk result (λ payloads. payloads.items ≡ payloads_of self.now) }
+        ensures rise { IfOk result (λ payloads. Rise payloads.items) }
     {
         payloads_at(alloc, &self.octets, &self.places)
     }
@@ -164,10 +165,11 @@ fn find<'a>(octets: &[u8], places: &'a [Place], key: Key<'_>) -> Option<&'a Plac
 }
 
 /// The payloads that the lines at these places trust, each once. They are in order, so a payload that two lines trust
-/// stands in neighbours.
+/// stands in neighbours, and the payloads rise.
 fn payloads_at(alloc: Global, octets: &[u8], places: &[Place]) -> Result<Vec<Bytes>, AllocError>
     requires { IsInOrder octets.now places.now }
-    ensures { IfOk result (λ payloads. payloads.items ≡ payloads_of (answers_at octets.now places.now)) }
+    ensures are { IfOk result (λ payloads. payloads.items ≡ payloads_of (answers_at octets.now places.now)) }
+    ensures rise { IfOk result (λ payloads. Rise payloads.items) }
 {
     let mut payloads = Vec::new(alloc);
     let mut rest = places;

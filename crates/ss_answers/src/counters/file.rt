@@ -78,8 +78,8 @@ pub fn counters_from<F: Read + Drop>(
     opened: io::Result<F>,
     length: Option<u64>,
 ) -> Result<Counters, CounterFault>
-    ensures unopened { IfErr opened.entry (λ _. result ≡ Err CounterFault.Read) }
-    ensures opened { IfOk opened.entry (λ file. MatchBool (is_too_long length)
+    ensures unopened { IfErr opened (λ _. result ≡ Err CounterFault.Read) }
+    ensures opened { IfOk opened (λ file. MatchBool (is_too_long length)
         (result ≡ Err CounterFault.TooBig)
         (MatchResult result (AreHeldCounters (F.remaining file)) (IsHeldCounterFault (F.remaining file)))) }
 {

@@ -1,8 +1,8 @@
-use Rattle.std.proofs.Common.{[], ◌++◌, sym, ap, ◌∙◌, subst}
+use Rattle.std.proofs.Common.{◌≡◌, [], ◌++◌, append-nil, sym, ap, ◌∙◌, subst}
 use Rattle.std.specs.List.{cons_option}
-use Rattle.ss_answers.specs.Answers.{last_trust, payloads_of}
+use Rattle.ss_answers.specs.Answers.{Rise, last_trust, payloads_of}
 use Rattle.ss_answers.specs.AnswerLine.{IsInOrder, answer_at, answers_at}
-use Rattle.ss_answers.proofs.TrustedPayloads.{cons_option-append, in_order_after}
+use Rattle.ss_answers.proofs.TrustedPayloads.{cons_option-append, in_order_after, none_left, payloads_rise}
 use Rattle.ss_answers.proofs.table.payloads_at.Goals as goal
 
 pub last_trust-requires : goal.last_trust-requires
@@ -24,3 +24,14 @@ loop-first-preserved c =
           ∙ ap (λ places. old ++ payloads_of (answers_at bytes places)) (sym is)
           ∙ c.loop-first.invariant.so_far;
     }
+
+pub returns-clause-rise : goal.returns-clause-rise
+returns-clause-rise c =
+    let bytes = c.args.octets.now in
+    let old = c.loop-first.payloads.items in
+    let none : c.loop-first.rest.now ≡ [] = none_left c.loop-first.rest.now c.in_default.ensures.cases in
+    let so_far : old ++ payloads_of (answers_at bytes []) ≡ payloads_of (answers_at bytes c.args.places.now) =
+    subst (λ rest. old ++ payloads_of (answers_at bytes rest) ≡ payloads_of (answers_at bytes c.args.places.now)) none
+    c.loop-first.invariant.so_far in
+    let are : old ≡ payloads_of (answers_at bytes c.args.places.now) = sym (append-nil old) ∙ so_far in
+    subst Rise (sym are) (payloads_rise bytes c.args.places.now c.requires)
