@@ -50,3 +50,8 @@ stops_of job options before after was is (run.Review fault) stopped = stopped
 stops_of job options before after was is run.Memory stopped = stopped
 stops_of job options before after was is run.Write stopped = absurd stopped
 stops_of job options before after was is (run.Extract fault) stopped = absurd stopped
+
+pub runs_or_stops : (job : Job) (options : ReadOptions) (before after : Source) (was is : Sink) (r : Result Verdict RunFault)
+    → RunsOrFails job options before after was is r → MatchResult r (Runs job options before after was is) (Stops job options before after was is)
+runs_or_stops job options before after was is (Ok verdict) told = told
+runs_or_stops job options before after was is (Err fault) told = subst (λ f. Stops job options before after was is f) (sym told.0) told.1

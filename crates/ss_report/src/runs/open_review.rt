@@ -99,10 +99,14 @@ impl OpenReview {
             → HasRead options before after self.now
             → IfErr result (λ fault. fault ≢ RunFault.Write → writer.new ≡ writer.old) }
     {
-        let asked = asked_of(self.alloc, &self.fed, known)?;
-        write_asked(writer, &asked, notation, Payloads::Once);
-        write_questions_end(writer, notation);
-        end_run(writer, asked.verdict)
+        match asked_of(self.alloc, &self.fed, known) {
+            Ok(asked) => {
+                write_asked(writer, &asked, notation, Payloads::Once);
+                write_questions_end(writer, notation);
+                end_run(writer, asked.verdict)
+            }
+            Err(fault) => Err(fault),
+        }
     }
 
     /// Makes the report, and writes it as `run_review_as` does.

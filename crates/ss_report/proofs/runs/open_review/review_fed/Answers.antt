@@ -12,5 +12,5 @@ returns-clause-made g c = λ options before after fed.
 
 pub returns-in_err-report-clause-made : goal.returns-in_err-report-clause-made
 returns-in_err-report-clause-made g c = λ options before after fed.
-    let p = err_from_is_err_and c.from_residual-in_err-report.result c.from_residual-in_err-report.ensures.1 in
+    let p = err_from_is_err_and c.from_residual.result c.from_residual.ensures.1 in
     rw (p.1, p.2) (c.in_err-report.ensures.stops options before after fed.no_read_failed)
