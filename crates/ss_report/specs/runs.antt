@@ -3,6 +3,7 @@ pub mod Extraction
 pub mod Selecting
 pub mod Counters
 pub mod Run
+pub mod Opened
 pub mod Jobs
 pub mod CounterLaws
 pub mod CarriedSoFar

@@ -31,6 +31,7 @@ pub use runs::counters::{
 pub use runs::extract::run_extract;
 pub use runs::extraction::{ExtractFault, Extraction, Selection};
 pub use runs::inspect::run_inspect;
+pub use runs::open_review::OpenReview;
 pub use runs::questions::run_questions;
 pub use runs::review::run_review;
 pub use runs::review_as::run_review_as;

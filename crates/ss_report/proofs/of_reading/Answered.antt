@@ -42,3 +42,16 @@ pub never_of_memory : (job : Job) (options : ReadOptions) (before after : Source
     → RunsOrFails job options before after was is r → IfErr r (λ fault. fault ≢ run.Memory)
 never_of_memory job options before after was is (Ok verdict) told = tt
 never_of_memory job options before after was is (Err fault) told = subst (λ f. f ≢ run.Memory) (sym told.0) (λ e. absurd cc)
+
+-- a run that fails before anything is written
+pub stops_of : (job : Job) (options : ReadOptions) (before after : Source) (was is : Sink) (fault : RunFault) → StopsRun job.reviews options before after fault → Stops job options before after was is fault
+stops_of job options before after was is (run.Frame fault) stopped = stopped
+stops_of job options before after was is (run.Review fault) stopped = stopped
+stops_of job options before after was is run.Memory stopped = stopped
+stops_of job options before after was is run.Write stopped = absurd stopped
+stops_of job options before after was is (run.Extract fault) stopped = absurd stopped
+
+pub runs_or_stops : (job : Job) (options : ReadOptions) (before after : Source) (was is : Sink) (r : Result Verdict RunFault)
+    → RunsOrFails job options before after was is r → MatchResult r (Runs job options before after was is) (Stops job options before after was is)
+runs_or_stops job options before after was is (Ok verdict) told = told
+runs_or_stops job options before after was is (Err fault) told = subst (λ f. Stops job options before after was is f) (sym told.0) told.1

@@ -1,6 +1,6 @@
 -- The runs over a log: what each writes of its messages and its ending, and its verdict. Those that review go by the
 -- payloads that are known beforehand, where some are given (`Pinned.antt` of `ss_review`).
-use Rattle.std.specs.Prelude.{true, false, ℕ, Option, List, flat_map}
+use Rattle.std.specs.Prelude.{true, false, ℕ, Option, List, ◌++◌, flat_map}
 use Rattle.ss_frame.specs.Frame.{units_in}
 use Rattle.ss_frame.specs.Watched.{Source, Sink}
 use Rattle.ss_review.specs.keep.Notes.{notes}
@@ -19,7 +19,7 @@ use Rattle.ss_report.specs.lines.Lines.{ReportLine, lines}
 use Rattle.ss_report.specs.lines.Whole.{TellsMissing}
 use Rattle.ss_report.specs.lines.Between.{between_lines_by, lines_by, whole_lines_by}
 use Rattle.ss_review.specs.declared.counted.counter.Counter.{Counter}
-use Rattle.ss_report.specs.texts.QuestionForms.{questions_as}
+use Rattle.ss_report.specs.texts.QuestionForms.{questions_as, questions_end}
 use Rattle.ss_report.specs.runs.Counters.{counter_lines}
 use Rattle.ss_report.specs.Verdict.{end_verdict, lines_verdict, report_verdict}
 use Rattle.ss_report.specs.runs.Extraction.{is_reviewed, messages_at, refusal, selected, selected_verdict, shown}
@@ -34,6 +34,7 @@ use Rattle.ss_report.specs.declared.lines.detail.Detail.{Detail}
 use Rattle.ss_report.specs.declared.lines.detail.Detail.TheVariants as details
 use Rattle.ss_report.specs.declared.notation.Notation.{Notation}
 use Rattle.ss_report.specs.declared.payloads.Payloads.{Payloads}
+use Rattle.ss_report.specs.declared.payloads.Payloads.TheVariants as payloads
 use Rattle.ss_report.specs.declared.verdict.verdict.Verdict.{Verdict}
 
 -- a line a message, in a form
@@ -91,6 +92,16 @@ reviewing_beside form detail beside known says =
 abbrev pub asking : Notation → Payloads → (known : Option (List (List ℕ))) → Job
 asking notation payloads known = record {
   output = λ messages ending. questions_as notation payloads known (blocks (notes messages));
+  verdict = λ messages ending. end_verdict ending;
+  reviews = true;
+  refusal = nothing;
+}
+
+-- what a review asks before it waits for answers: each payload once, and a last line
+abbrev pub asking_first : Notation → (known : Option (List (List ℕ))) → Job
+asking_first notation known = record {
+  output = λ messages ending.
+      questions_as notation payloads.Once known (blocks (notes messages)) ++ questions_end notation;
   verdict = λ messages ending. end_verdict ending;
   reviews = true;
   refusal = nothing;

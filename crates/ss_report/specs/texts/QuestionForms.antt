@@ -1,8 +1,9 @@
 -- The forms of the text of the questions about a log.
-use Rattle.std.specs.Prelude.{ℕ, List, Option}
+use Rattle.std.specs.Prelude.{ℕ, List, [], Option, codes}
 use Rattle.ss_review.specs.keep.BlockMessage.{BlockMessage}
 use Rattle.ss_review.specs.declared.questions.asked.AskedSession.{AskedSession}
 use Rattle.ss_review.specs.pinned.Pinned.{questions_by, sessions_by}
+use Rattle.ss_report.specs.records.Written.{written}
 use Rattle.ss_report.specs.texts.QuestionText.{asking_lines, question_lines}
 use Rattle.ss_report.specs.texts.QuestionsOnce.{once_text_of}
 use Rattle.ss_report.specs.declared.notation.Notation.{Notation}
@@ -21,3 +22,7 @@ abbrev pub questions_as : Notation → Payloads → (known : Option (List (List 
 questions_as Plain payloads.InEach known bs = question_lines (questions_by known bs)
 questions_as notation payloads.InEach known bs = asking_lines notation (sessions_by known bs)
 questions_as notation payloads.Once known bs = once_text_of notation (sessions_by known bs)
+
+-- the line after the last question of a review that waits for answers
+abbrev pub questions_end : Notation → List ℕ
+questions_end notation = written notation (record { kind = codes "end"; fields = [] })

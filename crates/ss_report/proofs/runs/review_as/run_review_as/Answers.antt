@@ -1,90 +1,14 @@
-use Rattle.std.proofs.Common.{ℕ, List, Option, Result, Ok, Err, refl}
-use Rattle.std.specs.Prelude.{IfOk}
-use Rattle.ss_frame.specs.Watched.{Source, Sink, source_of, sink_of}
-use Rattle.ss_review.specs.sessions.Verified.{Answers, answers}
-use Rattle.ss_review.specs.Laws.{ReportsListWhatIsAnnounced}
-use Rattle.ss_review.specs.keep.Notes.{notes}
-use Rattle.ss_review.specs.keep.Contents.{blocks}
-use Rattle.ss_review.specs.counted.Counted.{gbcs}
-use Rattle.ss_review.specs.counted.Kept.{counters_of, end_of_blocks}
-use Rattle.ss_review.specs.counted.CountedLaws.{CountedOrMissing}
-use Rattle.ss_review.specs.counted.KeptLaws.{EveryNumberIsTold, EveryBlockIsTold}
-use Rattle.ss_review.specs.pinned.Stands.{PinnedReportsAreOfLogs}
-use Rattle.ss_report.specs.declared.fault.RunFault.{RunFault}
-use Rattle.ss_report.specs.declared.fault.RunFault.TheVariants as run
-use Rattle.ss_report.specs.declared.forms.report_form.ReportForm.{ReportForm}
-use Rattle.ss_report.specs.declared.lines.detail.Detail.{Detail}
-use Rattle.ss_report.specs.declared.log.read_options.ReadOptions.{ReadOptions}
-use Rattle.ss_report.specs.declared.runs.beside.Beside.{Beside}
-use Rattle.ss_report.specs.declared.verdict.verdict.Verdict.{Verdict}
-use Rattle.ss_report.specs.log.Log.{StopsRun}
-use Rattle.ss_report.specs.runs.Run.{Job, Runs, Stops, given}
-use Rattle.ss_report.specs.runs.Jobs.{ReviewsAs, reviewing_beside}
-use Rattle.ss_report.proofs.of_reports.PinnedLogs.{stands_for}
-use Rattle.ss_report.proofs.of_reading.Answered.{runs_if_ok, stops_if_err, fails_by_write, never_of_memory}
-use Rattle.ss_report.proofs.runs.review_as.run_review_as.Goals.{in-Ok, in-Err}
+use Rattle.ss_report.proofs.of_reading.Answered.{stops_of}
 use Rattle.ss_report.proofs.runs.review_as.run_review_as.Goals as goal
 
--- a review that succeeds lists what is announced, as each report does
-reviews_if_ok : (form : ReportForm) (detail : Detail) (beside : Beside) (known : Option (List (List ℕ))) (says : Answers) (options : ReadOptions) (before after : Source) (was is : Sink) (r : Result Verdict RunFault)
-    → ReportsListWhatIsAnnounced → PinnedReportsAreOfLogs → CountedOrMissing → EveryNumberIsTold → EveryBlockIsTold
-    → IfOk r (Runs (reviewing_beside form detail beside known says) options before after was is) → IfOk r (ReviewsAs form detail beside known says options before after was is)
-reviews_if_ok form detail beside known says options before after was is (Ok verdict) law pinned missing number block ran =
-    let stands = stands_for pinned known says ran.messages in
-    let log = stands.0 in
-    record {
-      run = ran;
-      other = log;
-      stands = stands.1;
-      listed = law says log;
-      missing = λ counters s. missing says log s (end_of_blocks (counters_of counters s) (gbcs says (blocks (notes log)) s));
-      numbers_told = number says log;
-      blocks_told = block says log;
-    }
-reviews_if_ok form detail beside known says options before after was is (Err fault) law pinned missing number block ran = tt
-
--- a run that fails before anything is written
-stops_of : (job : Job) (options : ReadOptions) (before after : Source) (was is : Sink) (fault : RunFault) → StopsRun job.reviews options before after fault → Stops job options before after was is fault
-stops_of job options before after was is (run.Frame fault) stopped = stopped
-stops_of job options before after was is (run.Review fault) stopped = stopped
-stops_of job options before after was is run.Memory stopped = stopped
-stops_of job options before after was is run.Write stopped = absurd stopped
-stops_of job options before after was is (run.Extract fault) stopped = absurd stopped
-
 pub returns-clause-reviewed : goal.returns-clause-reviewed
-returns-clause-reviewed g c = elim c.match-review_log.branch [
-  | in-Ok w ↦
-      let told = w.write_reviewed.ensures _ _ _ _ (w.in-Ok.ensures.made c.args.form c.args.detail) in
-      rw (w.result-is, w.writer-is)
-      (reviews_if_ok c.args.form c.args.detail c.args.beside _ _ _ _ _ _ _ _ c.reports_list_what_is_announced.ensures c.pinned_reports_are_of_logs.ensures c.counted_or_missing.ensures c.every_number_is_told.ensures c.every_block_is_told.ensures (runs_if_ok _ _ _ _ _ _ _ told))
-  | in-Err w ↦ rw w.result-is tt
-]
+returns-clause-reviewed g c = c.report.ensures.reviewed _ _ _ c.in_ok-review.ensures.read
 
 pub returns-clause-stopped : goal.returns-clause-stopped
-returns-clause-stopped g c = elim c.match-review_log.branch [
-  | in-Ok w ↦
-      let told = w.write_reviewed.ensures _ _ _ _ (w.in-Ok.ensures.made c.args.form c.args.detail) in
-      rw (w.result-is, w.writer-is) (stops_if_err _ _ _ _ _ _ _ told)
-  | in-Err w ↦
-      let job = reviewing_beside c.args.form c.args.detail c.args.beside (given c.args.run.known) (answers g.J.Judge.trusted g.J.Judge.valid c.args.judge) in
-      let before = source_of g.R.Read.remaining c.args.run.reader.now in
-      let after = source_of g.R.Read.remaining c.review_log.new.reader in
-      let was = sink_of g.W.Write.contents c.args.run.writer.now in
-      rw (w.result-is, w.writer-is) (stops_of job c.args.run.options before after was was w.in-Err.fault w.in-Err.ensures.made)
-]
+returns-clause-stopped g c = c.report.ensures.stopped _ _ _ c.in_ok-review.ensures.read
 
 pub returns-clause-untouched : goal.returns-clause-untouched
-returns-clause-untouched g c = elim c.match-review_log.branch [
-  | in-Ok w ↦
-      let told = w.write_reviewed.ensures _ _ _ _ (w.in-Ok.ensures.made c.args.form c.args.detail) in
-      rw (w.result-is, w.writer-is) (fails_by_write _ _ _ _ _ _ _ _ told)
-  | in-Err w ↦ rw (w.result-is, w.writer-is) (λ _. refl)
-]
+returns-clause-untouched g c = c.report.ensures.untouched _ _ _ c.in_ok-review.ensures.read
 
 pub returns-clause-code : goal.returns-clause-code
-returns-clause-code g c = λ alone. elim c.match-review_log.branch [
-  | in-Ok w ↦
-      let told = w.write_reviewed.ensures _ _ _ _ (w.in-Ok.ensures.made c.args.form c.args.detail) in
-      rw w.result-is (never_of_memory _ _ _ _ _ _ _ told)
-  | in-Err w ↦ rw w.result-is (w.in-Err.ensures.code alone)
-]
+returns-clause-code g c = c.report.ensures.code _ _ _ c.in_ok-review.ensures.read

@@ -4,7 +4,7 @@ use Rattle.ss_review.specs.sessions.Verified.{answers}
 use Rattle.ss_report.specs.runs.Run.{given}
 use Rattle.ss_report.specs.lines.Between.{end_counters}
 use Rattle.ss_report.proofs.of_reports.WholeLines.{counted_lines}
-use Rattle.ss_report.proofs.runs.review_as.conclude.Goals as goal
+use Rattle.ss_report.proofs.runs.concluding.conclude.Goals as goal
 
 pub returns-in_ok-beside_counted-in-Missing-clause-made : goal.returns-in_ok-beside_counted-in-Missing-clause-made
 returns-in_ok-beside_counted-in-Missing-clause-made g c = λ messages keeps.

@@ -1,5 +1,5 @@
 use Rattle.ss_frame.specs.Watched.{sink_of}
-use Rattle.ss_report.proofs.runs.review_as.write_reviewed.Goals as goal
+use Rattle.ss_report.proofs.runs.open_review.write_reviewed.Goals as goal
 
 pub returns : goal.returns
 returns g c = λ job options before after made.

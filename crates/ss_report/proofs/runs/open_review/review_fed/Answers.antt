@@ -1,0 +1,16 @@
+use Rattle.std.proofs.lemmas.Result.{err_from_is_err_and}
+use Rattle.ss_review.specs.sessions.Verified.{answers}
+use Rattle.ss_report.specs.runs.Run.{given}
+use Rattle.ss_report.proofs.of_reports.WholeLines.{makes_beside}
+use Rattle.ss_report.proofs.runs.open_review.review_fed.Goals as goal
+
+pub returns-clause-made : goal.returns-clause-made
+returns-clause-made g c = λ options before after fed.
+    let says = answers g.J.Judge.trusted g.J.Judge.valid c.args.judge in
+    let found = c.in_ok-report.field-0 in
+    λ form detail. makes_beside form detail c.args.beside (given c.args.known) says _ _ _ fed.messages c.args.fed.ending fed.reading fed.no_read_failed found.report found.missing _ (c.in_ok-report.ensures.made fed.messages fed.keeps) c.report_verdict-verdict.ensures
+
+pub returns-in_err-report-clause-made : goal.returns-in_err-report-clause-made
+returns-in_err-report-clause-made g c = λ options before after fed.
+    let p = err_from_is_err_and c.from_residual.result c.from_residual.ensures.1 in
+    rw (p.1, p.2) (c.in_err-report.ensures.stops options before after fed.no_read_failed)
