@@ -1,4 +1,4 @@
-use Rattle.std.proofs.Common.{ℕ, List, Option, Result, Ok, Err, refl}
+use Rattle.std.proofs.Common.{ℕ, List, Option, Result, Ok, Err}
 use Rattle.std.specs.Prelude.{IfOk}
 use Rattle.ss_frame.specs.Watched.{Source, Sink, sink_of}
 use Rattle.ss_review.specs.sessions.Verified.{Answers, answers}
@@ -20,7 +20,6 @@ use Rattle.ss_report.specs.runs.Run.{Runs, given}
 use Rattle.ss_report.specs.runs.Jobs.{ReviewsAs, reviewing_beside}
 use Rattle.ss_report.proofs.of_reports.PinnedLogs.{stands_for}
 use Rattle.ss_report.proofs.of_reading.Answered.{runs_if_ok, stops_if_err, stops_of, fails_by_write, never_of_memory}
-use Rattle.ss_report.proofs.runs.open_review.OpenReview.report.Goals.{in-Ok, in-Err}
 use Rattle.ss_report.proofs.runs.open_review.OpenReview.report.Goals as goal
 
 -- a review that succeeds lists what is announced, as each report does
@@ -41,38 +40,25 @@ reviews_if_ok form detail beside known says options before after was is (Ok verd
     }
 reviews_if_ok form detail beside known says options before after was is (Err fault) law pinned missing number block ran = tt
 
-pub returns-clause-reviewed : goal.returns-clause-reviewed
-returns-clause-reviewed g c = λ options before after fed. elim c.match-review_fed.branch [
-  | in-Ok w ↦
-      let told = w.write_reviewed.ensures _ _ _ _ (w.in-Ok.ensures.made options before after fed c.args.form c.args.detail) in
-      rw (w.result-is, w.writer-is)
-      (reviews_if_ok c.args.form c.args.detail c.args.beside _ _ _ _ _ _ _ _ c.reports_list_what_is_announced.ensures c.pinned_reports_are_of_logs.ensures c.counted_or_missing.ensures c.every_number_is_told.ensures c.every_block_is_told.ensures (runs_if_ok _ _ _ _ _ _ _ told))
-  | in-Err w ↦ rw w.result-is tt
-]
+pub returns-in-Ok-clause-reviewed : goal.returns-in-Ok-clause-reviewed
+returns-in-Ok-clause-reviewed g c = λ options before after fed.
+    let told = c.write_reviewed.ensures _ _ _ _ (c.in-Ok.ensures.made options before after fed c.args.form c.args.detail) in
+    reviews_if_ok c.args.form c.args.detail c.args.beside _ _ _ _ _ _ _ _ c.reports_list_what_is_announced.ensures c.pinned_reports_are_of_logs.ensures c.counted_or_missing.ensures c.every_number_is_told.ensures c.every_block_is_told.ensures (runs_if_ok _ _ _ _ _ _ _ told)
 
-pub returns-clause-stopped : goal.returns-clause-stopped
-returns-clause-stopped g c = λ options before after fed. elim c.match-review_fed.branch [
-  | in-Ok w ↦
-      let told = w.write_reviewed.ensures _ _ _ _ (w.in-Ok.ensures.made options before after fed c.args.form c.args.detail) in
-      rw (w.result-is, w.writer-is) (stops_if_err _ _ _ _ _ _ _ told)
-  | in-Err w ↦
-      let job = reviewing_beside c.args.form c.args.detail c.args.beside (given c.args.known) (answers g.J.Judge.trusted g.J.Judge.valid c.args.judge) in
-      let was = sink_of g.W.Write.contents c.args.writer.now in
-      rw w.result-is (stops_of job options before after was was w.in-Err.fault (w.in-Err.ensures.made options before after fed))
-]
+pub returns-in-Ok-clause-stopped : goal.returns-in-Ok-clause-stopped
+returns-in-Ok-clause-stopped g c = λ options before after fed.
+    stops_if_err _ _ _ _ _ _ _ (c.write_reviewed.ensures _ _ _ _ (c.in-Ok.ensures.made options before after fed c.args.form c.args.detail))
 
-pub returns-clause-untouched : goal.returns-clause-untouched
-returns-clause-untouched g c = λ options before after fed. elim c.match-review_fed.branch [
-  | in-Ok w ↦
-      let told = w.write_reviewed.ensures _ _ _ _ (w.in-Ok.ensures.made options before after fed c.args.form c.args.detail) in
-      rw (w.result-is, w.writer-is) (fails_by_write _ _ _ _ _ _ _ _ told)
-  | in-Err w ↦ rw (w.result-is, w.writer-is) (λ _. refl)
-]
+pub returns-in-Ok-clause-untouched : goal.returns-in-Ok-clause-untouched
+returns-in-Ok-clause-untouched g c = λ options before after fed.
+    fails_by_write _ _ _ _ _ _ _ _ (c.write_reviewed.ensures _ _ _ _ (c.in-Ok.ensures.made options before after fed c.args.form c.args.detail))
 
-pub returns-clause-code : goal.returns-clause-code
-returns-clause-code g c = λ options before after fed alone. elim c.match-review_fed.branch [
-  | in-Ok w ↦
-      let told = w.write_reviewed.ensures _ _ _ _ (w.in-Ok.ensures.made options before after fed c.args.form c.args.detail) in
-      rw w.result-is (never_of_memory _ _ _ _ _ _ _ told)
-  | in-Err w ↦ rw w.result-is (w.in-Err.ensures.code alone)
-]
+pub returns-in-Ok-clause-code : goal.returns-in-Ok-clause-code
+returns-in-Ok-clause-code g c = λ options before after fed alone.
+    never_of_memory _ _ _ _ _ _ _ (c.write_reviewed.ensures _ _ _ _ (c.in-Ok.ensures.made options before after fed c.args.form c.args.detail))
+
+pub returns-in-Err-clause-stopped : goal.returns-in-Err-clause-stopped
+returns-in-Err-clause-stopped g c = λ options before after fed.
+    let job = reviewing_beside c.args.form c.args.detail c.args.beside (given c.args.known) (answers g.J.Judge.trusted g.J.Judge.valid c.args.judge) in
+    let was = sink_of g.W.Write.contents c.args.writer.now in
+    stops_of job options before after was was c.in-Err.fault (c.in-Err.ensures.made options before after fed)
