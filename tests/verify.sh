@@ -329,6 +329,7 @@ assert objects[-1]["other_keys"] == 1 and objects[-1]["verdict"] == sys.argv[2] 
 holds 'another key: on the page' grep -qF "isn&#x27;t the one that its signer states ($mine), so no block is verified; " other.html
 keys verify --key others/public-key.pem --session-key 'no such one 1' others/public-key.pem signed
 holds 'another key, twice: it is one' test "$(tail -n 1 out)" = "$nothing"
+mkdir -m 700 keys-of-nobody
 keys make keys-of-nobody --ver 0121
 keys verify --key others/public-key.pem --key keys-of-nobody/public-key.pem signed
 says 'two other keys' 1 "${nothing/the key that you gave isn\'t the/none of the keys that you gave is the}"
