@@ -47,10 +47,10 @@ struct Made {
     text: &'static [u8],
 }
 
-/// A run over a log in this form that writes nothing: why, and the code of that as it is printed.
+/// Runs over a log in this form that write nothing: why, and the code of that as it is printed.
 #[derive(Clone, Copy)]
 struct Refused {
-    job: Job,
+    jobs: &'static [Job],
     start: Option<Start>,
     form: Form,
     log: &'static [u8],
@@ -70,151 +70,123 @@ const FRAMES: &[u8] = b"19 <13>1 - - - - - - a19 <14>1 - - - - - - b";
 
 const LINES: &[u8] = b"<13>1 - - - - - - a\n<14>1 - - - - - - b\n";
 
+/// A log of frames without a message, which is signed.
+const SIGNED: Made = Made {
+    job: SIGN,
+    start: None,
+    form: Frames,
+    log: b"",
+    sizes: DEFAULT,
+    text: b"",
+};
+
 const MADE: [Made; 20] = [
     Made {
-        job: SIGN,
-        start: None,
-        form: Frames,
-        log: b"",
-        sizes: DEFAULT,
         text: CERTIFICATE_FRAME,
+        ..SIGNED
     },
     Made {
         job: Job::Plan,
-        start: None,
-        form: Frames,
-        log: b"",
-        sizes: DEFAULT,
         text: CERTIFICATE_WANT,
+        ..SIGNED
     },
     Made {
-        job: SIGN,
-        start: None,
         form: Lines,
-        log: b"",
-        sizes: DEFAULT,
         text: CERTIFICATE_FRAME,
+        ..SIGNED
     },
     Made {
         job: Job::Plan,
-        start: None,
         form: Lines,
-        log: b"",
-        sizes: DEFAULT,
         text: CERTIFICATE_WANT,
+        ..SIGNED
     },
     Made {
-        job: SIGN,
-        start: None,
-        form: Frames,
         log: FRAMES,
-        sizes: DEFAULT,
         text: BOTH_FRAMES,
+        ..SIGNED
     },
     Made {
         job: Job::Plan,
-        start: None,
-        form: Frames,
         log: FRAMES,
-        sizes: DEFAULT,
         text: BOTH_WANTS,
+        ..SIGNED
     },
     Made {
-        job: SIGN,
-        start: None,
         form: Lines,
         log: LINES,
-        sizes: DEFAULT,
         text: BOTH_FRAMES,
+        ..SIGNED
     },
     Made {
         job: Job::Sign(Seal::Zero),
-        start: None,
         form: Lines,
         log: LINES,
-        sizes: DEFAULT,
         text: ONE_OCTET_FRAMES,
+        ..SIGNED
     },
     Made {
         job: Job::Plan,
-        start: None,
         form: Lines,
         log: LINES,
-        sizes: DEFAULT,
         text: BOTH_WANTS,
+        ..SIGNED
     },
     Made {
-        job: SIGN,
-        start: None,
-        form: Frames,
         log: FRAMES,
         sizes: TWICE,
         text: TWICE_FRAMES,
+        ..SIGNED
     },
     Made {
         job: Job::Plan,
-        start: None,
         form: Lines,
         log: LINES,
         sizes: TWICE,
         text: TWICE_WANTS,
+        ..SIGNED
     },
     // Originators that go on: there are no certificate blocks, and numbers go on.
     Made {
-        job: SIGN,
         start: Some((0, None)),
-        form: Frames,
-        log: b"",
-        sizes: DEFAULT,
-        text: b"",
+        ..SIGNED
     },
     Made {
         job: Job::Plan,
         start: Some((7, Some(5))),
-        form: Frames,
-        log: b"",
-        sizes: DEFAULT,
-        text: b"",
+        ..SIGNED
     },
     Made {
         job: Job::Ahead,
         start: Some((7, Some(5))),
-        form: Frames,
-        log: b"",
-        sizes: DEFAULT,
         text: b"count h s - 1 7\ncount h s - 1 0 0 5\nend 2\n",
+        ..SIGNED
     },
     Made {
         job: Job::Ahead,
-        start: None,
-        form: Frames,
-        log: b"",
-        sizes: DEFAULT,
         text: b"count h s - 1 0\nend 1\n",
+        ..SIGNED
     },
     Made {
-        job: SIGN,
         start: Some((7, Some(5))),
         form: Lines,
         log: LINES,
-        sizes: DEFAULT,
         text: RESUMED_FRAMES,
+        ..SIGNED
     },
     Made {
         job: Job::Plan,
         start: Some((7, Some(5))),
-        form: Frames,
         log: FRAMES,
-        sizes: DEFAULT,
         text: RESUMED_WANTS,
+        ..SIGNED
     },
     Made {
         job: Job::Ahead,
         start: Some((7, Some(5))),
-        form: Frames,
         log: FRAMES,
-        sizes: DEFAULT,
         text: b"count h s - 1 8\ncount h s - 1 0 0 7\nend 2\n",
+        ..SIGNED
     },
     Made {
         job: Job::Ahead,
@@ -223,6 +195,7 @@ const MADE: [Made; 20] = [
         log: LINES,
         sizes: TWICE,
         text: b"count h s - 1 9\ncount h s - 1 0 0 3\nend 2\n",
+        ..SIGNED
     },
     Made {
         job: Job::Ahead,
@@ -231,207 +204,153 @@ const MADE: [Made; 20] = [
         log: LINES,
         sizes: TWICE,
         text: b"count h s - 1 10000000000\ncount h s - 1 0 0 10000000000\nend 2\n",
+        ..SIGNED
     },
 ];
 
-const REFUSED: [Refused; 39] = [
+/// The log ends inside of a message.
+const TORN: Refused = Refused {
+    jobs: &[SIGN],
+    start: None,
+    form: Frames,
+    log: b"",
+    sizes: DEFAULT,
+    fault: TornInput { pos: 0 },
+    code: "P1 0",
+};
+
+const REFUSED: [Refused; 26] = [
     Refused {
-        job: NOT_BEGUN,
-        start: None,
-        form: Frames,
-        log: b"",
-        sizes: DEFAULT,
+        jobs: &[NOT_BEGUN],
         fault: Origin {
             fault: OriginFault::SealRefused,
             place: None,
         },
         code: "O6",
+        ..TORN
     },
     Refused {
-        job: Job::Sign(Seal::FaultFor(SealFault::Memory, CERTIFICATE)),
-        start: None,
-        form: Frames,
-        log: b"",
-        sizes: DEFAULT,
+        jobs: &[Job::Sign(Seal::FaultFor(SealFault::Memory, CERTIFICATE))],
         fault: Origin {
             fault: OriginFault::Memory,
             place: None,
         },
         code: "O10",
+        ..TORN
     },
     Refused {
-        job: SIGN,
-        start: None,
-        form: Frames,
+        jobs: &[SIGN, Job::Plan],
         log: b"3 ab",
-        sizes: DEFAULT,
-        fault: TornInput { pos: 0 },
-        code: "P1 0",
+        ..TORN
     },
     Refused {
-        job: Job::Plan,
-        start: None,
-        form: Frames,
-        log: b"3 ab",
-        sizes: DEFAULT,
-        fault: TornInput { pos: 0 },
-        code: "P1 0",
-    },
-    Refused {
-        job: SIGN,
-        start: None,
-        form: Frames,
+        jobs: &[SIGN, Job::Plan],
         log: b"3 abc",
-        sizes: DEFAULT,
         fault: Origin {
             fault: OriginFault::NotSyslog,
             place: Some(0),
         },
         code: "O2 0",
+        ..TORN
     },
     Refused {
-        job: Job::Plan,
-        start: None,
-        form: Frames,
-        log: b"3 abc",
-        sizes: DEFAULT,
-        fault: Origin {
-            fault: OriginFault::NotSyslog,
-            place: Some(0),
-        },
-        code: "O2 0",
-    },
-    Refused {
-        job: SIGN,
-        start: None,
         form: Lines,
         log: b"<13>1 - - - - - - a\nabc\nabcd\n",
-        sizes: DEFAULT,
         fault: Origin {
             fault: OriginFault::NotSyslog,
             place: Some(1),
         },
         code: "O2 1",
+        ..TORN
     },
     Refused {
-        job: Job::Plan,
-        start: None,
+        jobs: &[Job::Plan],
         form: Lines,
         log: b"<13>1 - - - - - - a\n<14>1 - - - - - [ssign]\n",
-        sizes: DEFAULT,
         fault: Origin {
             fault: OriginFault::HasBlock,
             place: Some(1),
         },
         code: "O3 1",
+        ..TORN
     },
     Refused {
-        job: SIGN,
-        start: None,
+        jobs: &[SIGN, Job::Plan],
         form: Lines,
         log: b"<13>1 - - - - - - a\n<14>1 - - - - - - b",
-        sizes: DEFAULT,
         fault: TornInput { pos: 20 },
         code: "P1 20",
+        ..TORN
     },
     Refused {
-        job: Job::Plan,
-        start: None,
-        form: Lines,
-        log: b"<13>1 - - - - - - a\n<14>1 - - - - - - b",
-        sizes: DEFAULT,
-        fault: TornInput { pos: 20 },
-        code: "P1 20",
-    },
-    Refused {
-        job: SIGN,
-        start: None,
-        form: Frames,
-        log: b"",
         sizes: (0, 1),
         fault: Origin {
             fault: OriginFault::BadConfig,
             place: None,
         },
         code: "O1",
+        ..TORN
     },
     Refused {
-        job: SIGN,
-        start: None,
-        form: Frames,
-        log: b"",
         sizes: (10, 0),
         fault: Origin {
             fault: OriginFault::BadConfig,
             place: None,
         },
         code: "O1",
+        ..TORN
     },
     Refused {
-        job: Job::Plan,
-        start: None,
-        form: Frames,
-        log: b"",
+        jobs: &[Job::Plan],
         sizes: (100, 1),
         fault: Origin {
             fault: OriginFault::BadConfig,
             place: None,
         },
         code: "O1",
+        ..TORN
     },
     // The log comes before the originator, and its messages in their order.
     Refused {
-        job: SIGN,
-        start: None,
-        form: Frames,
         log: b"3 ab",
         sizes: (0, 1),
-        fault: TornInput { pos: 0 },
-        code: "P1 0",
+        ..TORN
     },
     Refused {
-        job: SIGN,
-        start: None,
-        form: Frames,
         log: b"3 abcx",
         sizes: (0, 1),
         fault: Run(RunFault::Frame(FrameFault::BadLength { pos: 5 })),
         code: "F1 5",
+        ..TORN
     },
     Refused {
-        job: Job::Plan,
-        start: None,
-        form: Frames,
+        jobs: &[Job::Plan],
         log: b"3 abc12",
-        sizes: DEFAULT,
         fault: TornInput { pos: 5 },
         code: "P1 5",
+        ..TORN
     },
     Refused {
-        job: Job::Plan,
-        start: None,
+        jobs: &[Job::Plan],
         form: Lines,
         log: b"abc\n\n",
-        sizes: DEFAULT,
         fault: Run(RunFault::Frame(FrameFault::EmptyLine { pos: 4 })),
         code: "F9 4",
+        ..TORN
     },
     Refused {
-        job: NOT_BEGUN,
-        start: None,
-        form: Frames,
+        jobs: &[NOT_BEGUN],
         log: b"3 abc",
-        sizes: DEFAULT,
         fault: Origin {
             fault: OriginFault::SealRefused,
             place: None,
         },
         code: "O6",
+        ..TORN
     },
     // A block that a message fills, and one that is left to the flush.
     Refused {
-        job: NOT_FLUSHED,
-        start: None,
+        jobs: &[NOT_FLUSHED],
         form: Lines,
         log: LINES,
         sizes: (1, 1),
@@ -440,22 +359,21 @@ const REFUSED: [Refused; 39] = [
             place: Some(1),
         },
         code: "O6 1",
+        ..TORN
     },
     Refused {
-        job: NOT_FLUSHED,
-        start: None,
+        jobs: &[NOT_FLUSHED],
         form: Lines,
         log: b"<14>1 - - - - - - b\n",
-        sizes: DEFAULT,
         fault: Origin {
             fault: OriginFault::SealRefused,
             place: None,
         },
         code: "O6",
+        ..TORN
     },
     Refused {
-        job: EMPTY,
-        start: None,
+        jobs: &[EMPTY],
         form: Lines,
         log: LINES,
         sizes: (1, 1),
@@ -464,22 +382,21 @@ const REFUSED: [Refused; 39] = [
             place: Some(1),
         },
         code: "O7 1",
+        ..TORN
     },
     Refused {
-        job: EMPTY,
-        start: None,
+        jobs: &[EMPTY],
         form: Lines,
         log: b"<14>1 - - - - - - b\n",
-        sizes: DEFAULT,
         fault: Origin {
             fault: OriginFault::SignatureLength,
             place: None,
         },
         code: "O7",
+        ..TORN
     },
     Refused {
-        job: NO_MEMORY,
-        start: None,
+        jobs: &[NO_MEMORY],
         form: Lines,
         log: LINES,
         sizes: (1, 1),
@@ -488,70 +405,68 @@ const REFUSED: [Refused; 39] = [
             place: Some(1),
         },
         code: "O10 1",
+        ..TORN
     },
     Refused {
-        job: NO_MEMORY,
-        start: None,
+        jobs: &[NO_MEMORY],
         form: Lines,
         log: b"<14>1 - - - - - - b\n",
-        sizes: DEFAULT,
         fault: Origin {
             fault: OriginFault::Memory,
             place: None,
         },
         code: "O10",
+        ..TORN
     },
     // Counters that no originator goes on at, and those that are near their end.
     Refused {
-        job: Job::Plan,
+        jobs: &[Job::Plan, Job::Ahead, SIGN],
         start: Some((10_000_000_001, None)),
         form: Lines,
-        log: b"",
-        sizes: DEFAULT,
         fault: Origin {
             fault: OriginFault::BadConfig,
             place: None,
         },
         code: "O1",
+        ..TORN
     },
     Refused {
-        job: Job::Plan,
+        jobs: &[Job::Plan, Job::Ahead, SIGN],
         start: Some((0, Some(0))),
         form: Lines,
-        log: b"",
-        sizes: DEFAULT,
         fault: Origin {
             fault: OriginFault::BadConfig,
             place: None,
         },
         code: "O1",
+        ..TORN
     },
     Refused {
-        job: Job::Plan,
+        jobs: &[Job::Plan, Job::Ahead, SIGN],
         start: Some((0, Some(9_999_999_999))),
         form: Lines,
         log: LINES,
-        sizes: DEFAULT,
         fault: Origin {
             fault: OriginFault::NumbersSpent,
             place: Some(1),
         },
         code: "O8 1",
+        ..TORN
     },
     Refused {
-        job: Job::Plan,
+        jobs: &[Job::Plan, Job::Ahead, SIGN],
         start: Some((10_000_000_000, None)),
         form: Lines,
         log: LINES,
-        sizes: DEFAULT,
         fault: Origin {
             fault: OriginFault::CounterSpent,
             place: None,
         },
         code: "O9",
+        ..TORN
     },
     Refused {
-        job: Job::Plan,
+        jobs: &[Job::Plan, Job::Ahead, SIGN],
         start: Some((9_999_999_999, None)),
         form: Lines,
         log: LINES,
@@ -561,126 +476,7 @@ const REFUSED: [Refused; 39] = [
             place: Some(1),
         },
         code: "O9 1",
-    },
-    Refused {
-        job: Job::Ahead,
-        start: Some((10_000_000_001, None)),
-        form: Lines,
-        log: b"",
-        sizes: DEFAULT,
-        fault: Origin {
-            fault: OriginFault::BadConfig,
-            place: None,
-        },
-        code: "O1",
-    },
-    Refused {
-        job: Job::Ahead,
-        start: Some((0, Some(0))),
-        form: Lines,
-        log: b"",
-        sizes: DEFAULT,
-        fault: Origin {
-            fault: OriginFault::BadConfig,
-            place: None,
-        },
-        code: "O1",
-    },
-    Refused {
-        job: Job::Ahead,
-        start: Some((0, Some(9_999_999_999))),
-        form: Lines,
-        log: LINES,
-        sizes: DEFAULT,
-        fault: Origin {
-            fault: OriginFault::NumbersSpent,
-            place: Some(1),
-        },
-        code: "O8 1",
-    },
-    Refused {
-        job: Job::Ahead,
-        start: Some((10_000_000_000, None)),
-        form: Lines,
-        log: LINES,
-        sizes: DEFAULT,
-        fault: Origin {
-            fault: OriginFault::CounterSpent,
-            place: None,
-        },
-        code: "O9",
-    },
-    Refused {
-        job: Job::Ahead,
-        start: Some((9_999_999_999, None)),
-        form: Lines,
-        log: LINES,
-        sizes: (1, 1),
-        fault: Origin {
-            fault: OriginFault::CounterSpent,
-            place: Some(1),
-        },
-        code: "O9 1",
-    },
-    Refused {
-        job: SIGN,
-        start: Some((10_000_000_001, None)),
-        form: Lines,
-        log: b"",
-        sizes: DEFAULT,
-        fault: Origin {
-            fault: OriginFault::BadConfig,
-            place: None,
-        },
-        code: "O1",
-    },
-    Refused {
-        job: SIGN,
-        start: Some((0, Some(0))),
-        form: Lines,
-        log: b"",
-        sizes: DEFAULT,
-        fault: Origin {
-            fault: OriginFault::BadConfig,
-            place: None,
-        },
-        code: "O1",
-    },
-    Refused {
-        job: SIGN,
-        start: Some((0, Some(9_999_999_999))),
-        form: Lines,
-        log: LINES,
-        sizes: DEFAULT,
-        fault: Origin {
-            fault: OriginFault::NumbersSpent,
-            place: Some(1),
-        },
-        code: "O8 1",
-    },
-    Refused {
-        job: SIGN,
-        start: Some((10_000_000_000, None)),
-        form: Lines,
-        log: LINES,
-        sizes: DEFAULT,
-        fault: Origin {
-            fault: OriginFault::CounterSpent,
-            place: None,
-        },
-        code: "O9",
-    },
-    Refused {
-        job: SIGN,
-        start: Some((9_999_999_999, None)),
-        form: Lines,
-        log: LINES,
-        sizes: (1, 1),
-        fault: Origin {
-            fault: OriginFault::CounterSpent,
-            place: Some(1),
-        },
-        code: "O9 1",
+        ..TORN
     },
 ];
 
@@ -725,15 +521,19 @@ fn makes(rt: HostRuntime) {
 }
 
 /// Nothing was written, and no device has failed.
-fn sees_refusal(rt: &(impl Abort + AllocGlobal), row: &Refused) -> Result<(), AllocError> {
+fn sees_refusal(
+    rt: &(impl Abort + AllocGlobal),
+    row: &Refused,
+    job: Job,
+) -> Result<(), AllocError> {
     let Refused {
-        job,
         start,
         form,
         log,
         sizes,
         fault,
         code,
+        ..
     } = *row;
     let task = Task {
         job,
@@ -756,7 +556,9 @@ fn sees_refusal(rt: &(impl Abort + AllocGlobal), row: &Refused) -> Result<(), Al
 #[test]
 fn refuses(rt: HostRuntime) -> Result<(), Fail> {
     for row in &REFUSED {
-        sees_refusal(&rt, row)?;
+        for job in row.jobs {
+            sees_refusal(&rt, row, *job)?;
+        }
     }
     Ok(())
 }
