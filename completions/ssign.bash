@@ -111,7 +111,7 @@ _ssign_words() {
     carry) _ssign_offer words '--answers --pinned --salvage --lines --max-len --max-messages --help' ;;
     explain)
         if [[ $2 == -* ]]; then
-            _ssign_offer words '--help'
+            _ssign_offer words '--json --help'
         else
             _ssign_offer codes
         fi

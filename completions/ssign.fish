@@ -124,6 +124,7 @@ complete -c ssign -n '__ssign_command carry' -l max-len -x -d 'Refuses a message
 complete -c ssign -n '__ssign_command carry' -l max-messages -x -d 'Refuses a log of more than N messages, 1 to 10000000'
 complete -c ssign -n '__ssign_command carry' -l help -s h -d 'Print help'
 complete -c ssign -n __ssign_command -a explain -d 'Explains a refusal or a word of the output'
+complete -c ssign -n '__ssign_command explain' -l json -d 'Writes a JSON object (RFC 8259) for the code, or without a code one for each that is explained'
 complete -c ssign -n '__ssign_command explain' -l help -s h -d 'Print help'
 complete -c ssign -n '__ssign_command explain' -a 'F1 F2 F3 F4 F5 F9 A1 A2 A3 A4 C1 C2 C3 C4 C5 C6 V1 E1 E2 W1 W2 P1 P2 O1 O2 O3 O6 O7 O8 O9 O10 O11 verified unverified missing unannounced session ok gap lost hole early beyond blocks tail tally unlisted refused spoilt damaged unlisted-count refused-count spoilt-count damaged-count torn end joined disputed incomplete malformed untrusted unaccepted absent plain unparsed signature certificate wrapped-plain wrapped-unparsed wrapped-signature wrapped-certificate wrapped-spoilt count want seal payload trust yes M1 M2 M3 M4 M5 M6 M7 M8 M9 M10 M11 M12 S1 S2 S3 S4 S5 S6 S7 S8 S9'
 complete -c ssign -n __ssign_command -a help -d 'Prints the help of a command'

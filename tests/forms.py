@@ -241,7 +241,8 @@ def main():
                       ["review", "--once"], ["extract", "--once"], ["inspect", "--once"], ["counters", "--once"],
                       ["questions", "--once=x"], ["questions", "--once", "--once"], ["inspect", "--pinned", os.devnull],
                       ["plan", "--pinned", os.devnull], ["carry", "--pinned", os.devnull, "--pinned", os.devnull],
-                      ["carry", "--json"], ["carry", "--findings"], ["explain", "--json"], ["inspect", "--json", "--json"]):
+                      ["carry", "--json"], ["carry", "--findings"], ["explain", "--json", "--json"], ["explain", "--findings", "F1"],
+                      ["explain", "--json=x", "F1"], ["inspect", "--json", "--json"]):
             ran = subprocess.run([PROGRAM, *words], input=log, capture_output=True, check=False)
             tell(" ".join(words), "" if ran.returncode == 2 and ran.stderr and not ran.stdout else repr(ran))
         objects_by_hand()

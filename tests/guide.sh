@@ -1,7 +1,8 @@
 #!/usr/bin/env bash
 # The tables of codes in docs/guide.md are what `ssign explain` lists: the same codes, and of each the same text but for
-# backquotes. It explains codes too that the program never prints, and finds a code in what a refusal prints. The three nights
-# of one session that docs/guide.md and README.md show print what is shown there, and the pages of five cases begin so.
+# backquotes. It explains codes too that the program never prints, and finds a code in what a refusal prints. With --json it
+# writes objects, which have the same codes and texts. The three nights of one session that docs/guide.md and README.md show
+# print what is shown there, and the pages of five cases begin so.
 # shellcheck source=tests/lib.sh
 . "$(dirname -- "$0")/lib.sh"
 need_program
@@ -97,6 +98,76 @@ unknown ssign ssign F1
 unknown SSIGN: SSIGN: F1
 unknown F1: 'F1: 0'
 unknown ssign:F1 ssign:F1
+
+# ---- explain --json
+# entries: of each object on standard input, which has these keys and no other, its table, its code and its text.
+entries() {
+    python3 -c '
+import json, sys
+for line in sys.stdin.buffer.read().decode("ascii").removesuffix("\n").split("\n"):
+    it = json.loads(line)
+    assert list(it) == ["line", "table", "code", "text"] and it["line"] == "explanation", it
+    print(it["table"], it["code"], it["text"])'
+}
+run explain --json </dev/null
+expect 'explain --json' 0 'SOME TEXT' ''
+cp -- "$scratch/out" "$scratch/all"
+entries <"$scratch/all" >"$scratch/entries"
+holds 'explain --json: each code, in the order of the tables' \
+    test "$(cut -d ' ' -f 2 "$scratch/entries" | tr '\n' ' ')" = "${told[*]} ${unprinted[*]} "
+holds 'explain --json: the tables' test "$(cut -d ' ' -f 1 "$scratch/entries" | uniq | tr '\n' ' ')" = 'refusals words faults unprinted '
+holds 'explain --json: the first and the last code of the tables' \
+    test "$(cut -d ' ' -f 1,2 "$scratch/entries" | grep -E ' (F1|O11|verified|yes|M1|S9|F6)$' | tr '\n' ' ')" = \
+    'refusals F1 refusals O11 words verified words yes faults M1 faults S9 unprinted F6 '
+holds 'explain --json: an object by hand' grep -qxF '{"line":"explanation","table":"faults","code":"M10","text":"The value of a parameter isn'"'"'t UTF-8. The sender wrote it in another encoding, or an octet was changed: set the sender to UTF-8."}' "$scratch/all"
+while read -r table code text; do
+    holds "explain --json: the text of $code" test "$("$program" explain "$code" </dev/null)" = "$text"
+    run explain --json "$code" </dev/null
+    expect "explain --json $code" 0 "$(grep -F "{\"line\":\"explanation\",\"table\":\"$table\",\"code\":\"$code\"," "$scratch/all")" ''
+done <"$scratch/entries"
+for words in 'F1 --json' '--json ssign: F1 0' '--json f1' '--json -- F1' '--json F1 F2'; do
+    read -r -a words <<<"$words"
+    run explain "${words[@]}" </dev/null
+    expect "explain ${words[*]}" 0 "$(grep -F '"code":"F1"' "$scratch/all")" ''
+done
+for code in nothing '' ' ' F; do
+    "$program" explain "$code" </dev/null >"$scratch/out" 2>"$scratch/wanted"
+    run explain --json "$code" </dev/null
+    expect "explain --json '$code'" 2 '' "$(<"$scratch/wanted")"
+done
+run explain --json </dev/full
+expect 'explain --json reads no log' 0 "$(<"$scratch/all")" ''
+# the tools run the program once in a process, and only if something is to be explained
+cat >"$scratch/counted" <<S
+#!/bin/sh
+echo "\$*" >>'$scratch/calls'
+exec '$program' "\$@"
+S
+chmod +x "$scratch/counted"
+: >"$scratch/calls"
+PYTHONPATH=$root/tools python3 -B - "$scratch/counted" "$scratch/calls" >"$scratch/out" 2>"$scratch/err" <<'P'
+import sys
+import ssign_keys.explanations as explanations
+program, calls = sys.argv[1:]
+assert open(calls).read() == ""
+print(explanations.explained(program, "gap"))
+print(explanations.first_sentence(program, "M5"))
+print(explanations.explained(program, "nothing") == "", explanations.explained("/dev/null", "gap") == "")
+P
+status=$?
+expect 'the tools explain' 0 "$("$program" explain gap </dev/null)"$'\n'"$(sentence_of M5)"$'\nTrue True' ''
+holds 'the tools run explain once' test "$(<"$scratch/calls")" = 'explain --json'
+# without a code and without --json
+for words in '' --; do
+    read -r -a words <<<"$words"
+    run explain "${words[@]}" </dev/null
+    expect "explain ${words[*]}" 2 '' 'error: the following required arguments were not provided:
+  <CODE>...
+
+Usage: ssign explain <CODE>...
+
+For more information, try '"'--help'."
+done
 
 # ---- three nights of one session
 # nights FILE: runs the block of commands with `--new-session`, in a folder of its own, and compares its last line with the block

@@ -74,6 +74,11 @@ words_of() {
     printf '%s (%s)' "$("$program" explain "$1" </dev/null | sed -E "s/^($1 or )?$1 [A-Z]+: //")" "$1"
 }
 
+# sentence_of CODE: the first sentence of what the program explains of a code, without its full stop.
+sentence_of() {
+    "$program" explain "$1" </dev/null | sed -E 's/\.( .*)?$//'
+}
+
 # list_commands [COMMAND..]: sets the array `commands` to the commands that the program's help lists, in its order, but for
 # those that are named. So a check that goes over them misses none that was added. A help that lists none is a failed check.
 list_commands() {

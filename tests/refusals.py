@@ -477,8 +477,10 @@ def refused_signings():
 
 def others():
     """Runs whose text isn't in a format: there the words with memory are taken as they are, but for the status."""
-    for words, status in ((["explain", "S3"], 0), (["explain", "X"], 2), (["--help"], 0), (["sign", "--help"], 0),
-                          (["--version"], 0), (["review", "--nope"], 2), (["plan"], 2), ([], 2)):
+    for words, status in ((["explain", "S3"], 0), (["explain", "X"], 2), (["explain", "--json"], 0),
+                          (["explain", "--json", "S3"], 0), (["explain", "--json", "X"], 2), (["explain"], 2),
+                          (["--help"], 0), (["sign", "--help"], 0), (["--version"], 0), (["review", "--nope"], 2), (["plan"], 2),
+                          ([], 2)):
         yield Case("words: " + " ".join(words), words, b"", status)
 
 

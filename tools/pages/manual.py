@@ -43,7 +43,7 @@ def command_lines(program: Program, command: Command) -> List[str]:
     made = [f".SS {quoted(f'{program.name} {command.name}')}", usage_line(command.usage)]
     made += [".PP", *roff(sentence(command.purpose))[1:]]
     for name, text in command.arguments:
-        made += entry(f"\\fI{plain(name.strip('<>.'))}\\fR", [sentence(text[:1].upper() + text[1:])])
+        made += entry(f"\\fI{plain(name.strip('<>.[]'))}\\fR", [sentence(text[:1].upper() + text[1:])])
     for option in command.options:
         made += option_lines(option)
     if command.examples:

@@ -2,10 +2,10 @@ mod FileCounters
 mod GivenPaths
 mod Limits
 mod Readings
-mod FailedWrites
 mod CountedMessages
 mod FoundCommands
 mod Flags
+mod AddedTexts
 mod Spaces
 mod ReadBounds
 mod Openings

@@ -18,7 +18,7 @@ use Rattle.ssign.specs.declared.command_line.Order.TheVariants.{Log, Sent, Expla
 use Rattle.ssign.specs.declared.task.Reporting.{Reporting}
 use Rattle.ssign.specs.declared.task.Task.TheVariants.{Review, Questions, Extract, Inspect, Counters, Carry}
 use Rattle.ssign.specs.declared.signing.Signing.TheVariants.{Plan, Sign}
-use Rattle.ssign.specs.Options.{AreVersions, Kept, flag_rule, place_rule, reading_rules, required_rule}
+use Rattle.ssign.specs.Options.{AreVersions, Kept, flag_rule, place_rule, reading_rules}
 use Rattle.ssign.specs.Options.{signing_rules, text_rule, words_rule}
 use Rattle.ss_report.specs.declared.forms.report_form.ReportForm.{ReportForm}
 use Rattle.ss_report.specs.declared.forms.report_form.ReportForm.TheVariants as forms
@@ -135,7 +135,7 @@ own_rules (Sent Plan) = text_rule (codes "resume") ∷ flag_rule (codes "ahead")
 own_rules (Sent Sign) =
     text_rule (codes "answers") ∷ text_rule (codes "resume") ∷ flag_rule (codes "wrap") ∷ flag_rule (codes "lines-out")
     ∷ []
-own_rules Explain = required_rule (words_rule (codes "code")) ∷ []
+own_rules Explain = words_rule (codes "code") ∷ flag_rule (codes "json") ∷ []
 
 -- those after them that it shares
 abbrev pub shared_rules : Kept → Order → List Rule

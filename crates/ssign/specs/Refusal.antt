@@ -12,7 +12,8 @@ use Rattle.ssign.specs.FaultCode.{settings_fault_code}
 use Rattle.ssign.specs.declared.extraction.ExtractionFault.TheVariants as extraction
 use Rattle.ssign.specs.declared.refusal.Refusal.{Refusal}
 use Rattle.ssign.specs.declared.refusal.Refusal.TheVariants.{NoOption, SalvagedLines, Extraction, From, Counters, Pinned}
-use Rattle.ssign.specs.declared.refusal.Refusal.TheVariants.{Answers, Settings, Resume, Start, Run, Signing, NoEntry}
+use Rattle.ssign.specs.declared.refusal.Refusal.TheVariants.{Answers, Settings, Resume, Start, Run, Signing, NoCode}
+use Rattle.ssign.specs.declared.refusal.Refusal.TheVariants.{NoEntry}
 
 -- what is seen of a code
 abbrev pub code_seen : Option Code → Option (List ℕ × Option ℕ)
@@ -34,6 +35,7 @@ refusal_code (Resume fault) = Some (counter_fault_code fault)
 refusal_code (Start fault) = Some (start_fault_code fault)
 refusal_code (Run fault) = Some (run_fault_code fault)
 refusal_code (Signing fault) = Some (sign_fault_code fault)
+refusal_code NoCode = None
 refusal_code NoEntry = None
 
 -- it comes before a run over a log

@@ -9,6 +9,7 @@ ghost use Rattle.ssign.specs.CommandLine.{name_of, order_app, order_in, own_rule
 ghost use Rattle.ssign.specs.CommandLine.{reporting, shared_rules, ssign_app, text_of, with_commands, with_rules};
 ghost use Rattle.ssign.specs.Explanation.{asked_of};
 ghost use Rattle.ssign.specs.Options.{AreVersions, Kept, rule_by};
+ghost use Rattle.ssign.specs.Orders.{code_in};
 
 use crate::arguments::option;
 use crate::asked::asked_of;
@@ -202,6 +203,36 @@ pub fn salvage_conflict(alloc: Global, task: Task) -> Result<Error, AllocError>
         ErrorKind::ArgumentConflict,
         "the argument '--salvage' cannot be used with '--lines'",
     )
+}
+
+/// The mistake of an explanation that isn't asked for by a code, nor for all of them.
+pub fn code_missing(alloc: Global) -> Result<Error, AllocError>
+    ensures { IfOk result (λ e. kind_of e ≡ ErrorKind.MissingRequiredArgument) }
+{
+    bare_of(alloc, Order::Explain.row())
+        .override_usage("ssign explain <CODE>...")
+        .error(
+            ErrorKind::MissingRequiredArgument,
+            "the following required arguments were not provided:\n  <CODE>...",
+        )
+}
+
+/// Whether `--json` asks for objects.
+pub fn asks_for_json(matches: &ArgMatches<'_>) -> bool
+    ensures { (json_given : Bool) → FlagIs matches.now (codes "json") json_given → result ≡ json_given }
+{
+    matches.get_flag(options::JSON.name)
+}
+
+/// The code that is asked about: empty, if no word names one, and none, if no word is given at all.
+pub fn given_code<'a>(matches: &ArgMatches<'a>) -> Option<&'a str>
+    ensures { option_map (λ s. s.now) result ≡ code_in matches.now }
+{
+    if matches.contains_id(options::CODE.name) {
+        Some(asked_code(matches).unwrap_or(""))
+    } else {
+        None
+    }
 }
 
 /// The code that is asked about, if a word names one.

@@ -1,8 +1,8 @@
 //! The commands: a row for each.
 use crate::options::{
     AHEAD, ANSWERS, ANSWERS_SEALED, CODE, COUNTERS as COUNTERS_FILE, FINDINGS, FINDINGS_PLAIN,
-    FROM, JSON, LINES_OUT, ONCE, OptionRow, PINNED, PLACE, READING, RESUME, SALVAGE,
-    SALVAGE_REPORTED, SIGNING, TALLY, UNLISTED, UNWRAP, UNWRAP_SHOWN, WHOLE, WRAP,
+    FROM, JSON, JSON_EXPLAINED, LINES_OUT, ONCE, OptionRow, PINNED, PLACE, READING, RESUME,
+    SALVAGE, SALVAGE_REPORTED, SIGNING, TALLY, UNLISTED, UNWRAP, UNWRAP_SHOWN, WHOLE, WRAP,
 };
 
 /// What the help of a command has of its own.
@@ -123,8 +123,9 @@ pub const EXPLAIN: CommandRow = CommandRow {
   ssign explain F1
   ssign explain 'ssign: F1 0'
   ssign explain gap
-  ssign explain m8",
+  ssign explain m8
+  ssign explain --json",
     ),
-    options: &[CODE],
+    options: &[CODE, JSON_EXPLAINED],
     shared: &[],
 };

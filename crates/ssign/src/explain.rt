@@ -1,16 +1,15 @@
-//! Printing what a code means.
-ghost use Rattle.std.specs.Prelude.{◌≡◌, ◌≢◌, false, IfOk, IfErr};
-ghost use Rattle.std.specs.List.{find};
+//! What is written about a code.
+ghost use Rattle.std.specs.Prelude.{◌≡◌, None, Some, find, option_map, IfOk, MatchResult};
+ghost use Rattle.std.specs.List.{list_any};
 ghost use Rattle.std.specs.Option.{option_copied};
-ghost use Rattle.ss_frame.specs.Output.{WritesWhole, WritesPrefix};
-ghost use Rattle.ss_frame.specs.Watched.{has_failed, sink_of};
-ghost use Rattle.ssign.specs.Explanation.{has_code, entries_of, told_text};
+ghost use Rattle.ssign.specs.Explanation.{entries_of, explained, has_code, table_of, told, told_text};
+ghost use Rattle.ssign.specs.Orders.{IsUnexplained};
 
 use crate::explanations::{Explanation, Tables};
-use ss_frame::Watched;
-use ss_report::{RunFault, write_whole};
-use std::alloc::Global;
-use std::io::Write;
+use crate::objects::{object_text, objects_text};
+use crate::refusal::Refusal;
+use ss_report::RunFault;
+use std::alloc::{AllocError, Global};
 
 /// The first entry of tables with this code, in letters of either case. `None` exactly where no entry has it.
 pub fn explanation_of<'t>(tables: Tables<'t>, code: &str) -> Option<&'t Explanation>
@@ -25,26 +24,109 @@ pub fn explanation_of<'t>(tables: Tables<'t>, code: &str) -> Option<&'t Explanat
         .find(|entry| entry.code.eq_ignore_ascii_case(code))
 }
 
-/// Writes the text of an entry as one line, and flushes the writer.
+/// What is to be written about this code, or without a code about all of them: with `--json` objects, and else a text.
 ///
 /// # Errors
 ///
-/// `RunFault::Write` exactly where a call of the writer failed; what was written then is a prefix of the line.
-/// `RunFault::Memory` if it runs out of memory; nothing was written then.
-pub fn write_explanation<W: Write>(
+/// `NoCode` where no code is given without `--json`; `NoEntry` where no entry has the code; `Run` with
+/// `RunFault::Memory` if it runs out of memory.
+pub fn explained(
     alloc: Global,
-    writer: &mut Watched<W>,
-    explanation: &Explanation,
-) -> Result<(), RunFault>
-    requires { has_failed writer.old ≡ false }
-    ensures told { IfOk result (λ _.
-        WritesWhole (sink_of W.contents writer.old) (sink_of W.contents writer.new) (told_text explanation.now)) }
-    ensures failed { IfErr result (λ fault. fault ≡ RunFault.Write
-        → WritesPrefix (sink_of W.contents writer.old) (sink_of W.contents writer.new) (told_text explanation.now)) }
-    ensures untouched { IfErr result (λ fault.
-        fault ≢ RunFault.Write → (fault ≡ RunFault.Memory) × (writer.new ≡ writer.old)) }
+    tables: Tables<'_>,
+    json: bool,
+    code: Option<&str>,
+) -> Result<Vec<u8>, Refusal>
+    ensures { MatchResult result
+        (λ text. explained tables.entry json (option_map (λ s. s.now) code.entry) ≡ Some text.items)
+        (IsUnexplained tables.entry json (option_map (λ s. s.now) code.entry)) }
 {
-    let mut line = Vec::from_slice(alloc, explanation.text.as_bytes())?;
+    match code {
+        Some(code) => one_explained(alloc, tables, json, code),
+        None => all_explained(alloc, tables, json),
+    }
+}
+
+/// What is to be written about this code.
+fn one_explained(
+    alloc: Global,
+    tables: Tables<'_>,
+    json: bool,
+    code: &str,
+) -> Result<Vec<u8>, Refusal>
+    ensures { MatchResult result
+        (λ text. explained tables.entry json (Some code.now) ≡ Some text.items)
+        (IsUnexplained tables.entry json (Some code.now)) }
+{
+    let Some(entry) = explanation_of(tables, code) else {
+        return Err(Refusal::NoEntry);
+    };
+    match told(alloc, tables, json, code, entry) {
+        Ok(text) => Ok(text),
+        Err(_) => Err(Refusal::Run(RunFault::Memory)),
+    }
+}
+
+/// What is to be written about all codes.
+fn all_explained(alloc: Global, tables: Tables<'_>, json: bool) -> Result<Vec<u8>, Refusal>
+    ensures { MatchResult result
+        (λ text. explained tables.entry json None ≡ Some text.items)
+        (IsUnexplained tables.entry json None) }
+{
+    if !json {
+        return Err(Refusal::NoCode);
+    }
+    match objects_text(alloc, tables) {
+        Ok(text) => Ok(text),
+        Err(_) => Err(Refusal::Run(RunFault::Memory)),
+    }
+}
+
+/// What is to be written about an entry, which has this code.
+fn told(
+    alloc: Global,
+    tables: Tables<'_>,
+    json: bool,
+    code: &str,
+    entry: &Explanation,
+) -> Result<Vec<u8>, AllocError>
+    ensures { IfOk result (λ text. text.items ≡ told tables.entry json code.now entry.now) }
+{
+    if json {
+        object_text(alloc, table_of(tables, code), entry)
+    } else {
+        line_of(alloc, entry)
+    }
+}
+
+/// The text of an entry, as a line.
+fn line_of(alloc: Global, entry: &Explanation) -> Result<Vec<u8>, AllocError>
+    ensures { IfOk result (λ line. line.items ≡ told_text entry.now) }
+{
+    let mut line = Vec::from_slice(alloc, entry.text.as_bytes())?;
     line.push(b'\n')?;
-    write_whole(writer, &line)
+    Ok(line)
+}
+
+/// The name of the first table that has this code: of the last one, if no table has it.
+fn table_of(tables: Tables<'_>, code: &str) -> &'static str
+    ensures { result.now ≡ table_of tables.entry code.now }
+{
+    if has_entry(tables.refusals, code) {
+        "refusals"
+    } else if has_entry(tables.words, code) {
+        "words"
+    } else if has_entry(tables.faults, code) {
+        "faults"
+    } else {
+        "unprinted"
+    }
+}
+
+/// Whether an entry has this code, in letters of either case.
+fn has_entry(entries: &[Explanation], code: &str) -> bool
+    ensures { result ≡ list_any (has_code code.now) entries.now }
+{
+    entries
+        .iter()
+        .any(|entry| entry.code.eq_ignore_ascii_case(code))
 }

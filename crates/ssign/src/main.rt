@@ -16,6 +16,7 @@ pub mod laws;
 mod likely_cause;
 mod message_count;
 mod negatives;
+mod objects;
 mod options;
 mod orders;
 mod program;
@@ -31,7 +32,7 @@ mod task;
 mod text_option;
 
 pub use asked::{asked_of, asked_word};
-pub use explain::{explanation_of, write_explanation};
+pub use explain::{explained, explanation_of};
 pub use explanations::{Explanation, Tables, all_tables};
 pub use extraction::{ExtractionFault, extraction_of};
 pub use first_octets::FirstOctets;

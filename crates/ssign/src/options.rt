@@ -366,13 +366,18 @@ pub const MAX_MESSAGES: OptionRow = OptionRow {
     ..NUMBER
 };
 
-/// `code`: what `ssign explain` is asked about. It has to be given, and stands without hyphens.
+/// `--json` of `ssign explain`, where it also stands in place of a code.
+pub const JSON_EXPLAINED: OptionRow = OptionRow {
+    help: "Writes a JSON object (RFC 8259) for the code, or without a code one for each that is explained",
+    ..JSON
+};
+
+/// `code`: what `ssign explain` is asked about. It stands without hyphens, and may be left out only with `--json`.
 pub const CODE: OptionRow = OptionRow {
     name: "code",
     value: Value::Words,
-    need: Need::Required,
     help: "A refusal as it was printed, or its code (F1), a word of the output (gap, untrusted), or a cause (M8, \
-        S3), in letters of either case",
+        S3), in letters of either case; it may be left out only with --json",
     ..FLAG
 };
 

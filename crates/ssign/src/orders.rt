@@ -1,7 +1,6 @@
 //! What the commands do, over any files, reader and writer.
 ghost use Rattle.std.specs.Prelude.{◌≡◌, false, true, IfErr};
 ghost use Rattle.ss_frame.specs.Watched.{has_failed, source_of, sink_of};
-ghost use Rattle.ssign.specs.Explanation.{entries_of};
 ghost use Rattle.ssign.specs.Orders.{Ends};
 ghost use Rattle.ssign.specs.Refusal.{is_before_run, is_failed_write};
 
@@ -39,7 +38,7 @@ pub fn run_order<F: GivenFiles, R: Read, W: Write>(
 ) -> Result<Verdict, Refusal>
     requires reader { has_failed reader.old ≡ false }
     requires writer { has_failed writer.old ≡ false }
-    ensures ends { Ends (F.contents files.now) (entries_of tables.entry) options.now order
+    ensures ends { Ends (F.contents files.now) tables.entry options.now order
         (source_of R.remaining reader.old) (source_of R.remaining reader.new)
         (sink_of W.contents writer.old) (sink_of W.contents writer.new) result }
     ensures unread { IfErr result (λ refusal. is_before_run refusal ≡ true → reader.new ≡ reader.old) }

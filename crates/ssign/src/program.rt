@@ -3,7 +3,7 @@ ghost use Rattle.std.specs.Prelude.{◌≡◌, ◌≤◌, map, string_bytes};
 ghost use Rattle.ssign.specs.CommandLine.{AreMistaken, is_payload, status_of};
 
 use crate::command_line::{
-    Order, asked_code, command, extract_conflict, form_in, order_of, salvage_conflict,
+    Order, asked_code, code_missing, command, extract_conflict, form_in, order_of, salvage_conflict,
 };
 use crate::explanations::all_tables;
 use crate::extraction::ExtractionFault;
@@ -153,12 +153,13 @@ fn report_mistake<R: Print + Eprint + Screen + AllocGlobal>(
         Refusal::Extraction(ExtractionFault::Both) => {
             report_conflict(rt, extract_conflict(rt.alloc()))
         }
+        Refusal::NoCode => report_conflict(rt, code_missing(rt.alloc())),
         Refusal::NoEntry => refuse_code(rt, all_tables(), asked_code(options).unwrap_or("")),
         _ => REFUSED,
     }
 }
 
-/// Reports that two options exclude each other, like other mistakes of the command line, or that there is no memory for
+/// Reports that two options exclude each other, or that a code is missing, like other mistakes of the command line, or that there is no memory for
 /// it.
 fn report_conflict<R: Print + Eprint + Screen + AllocGlobal>(
     rt: &R,

@@ -37,6 +37,8 @@ pub enum Refusal {
     Run(RunFault),
     /// The run that signs a log failed.
     Signing(SignFault),
+    /// No code is asked about, and not for all of them.
+    NoCode,
     /// No entry has the code that is asked about.
     NoEntry,
 }
@@ -47,7 +49,8 @@ impl Refusal {
         ensures { code_seen result ≡ refusal_code self }
     {
         match self {
-            Refusal::NoOption | Refusal::SalvagedLines(_) | Refusal::NoEntry => None,
+            Refusal::NoOption | Refusal::SalvagedLines(_) | Refusal::NoCode | Refusal::NoEntry =>
+                None,
             Refusal::Extraction(ExtractionFault::Both) => None,
             Refusal::Extraction(ExtractionFault::NoNumber) => None,
             Refusal::Extraction(ExtractionFault::Memory) => Some(RunFault::Memory.code()),

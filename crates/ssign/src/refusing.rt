@@ -147,8 +147,11 @@ pub fn remark_on<'a>(
         Refusal::Settings(fault) => settings_remark(fault, options),
         Refusal::Run(fault) => cause_remark(run_cause(&fault, form, octets)),
         Refusal::Signing(fault) => cause_remark(signing_cause(&fault, form, octets)),
-        Refusal::NoOption | Refusal::SalvagedLines(_) | Refusal::Extraction(_) | Refusal::NoEntry =>
-            Remark::Nothing,
+        Refusal::NoOption
+        | Refusal::SalvagedLines(_)
+        | Refusal::Extraction(_)
+        | Refusal::NoCode
+        | Refusal::NoEntry => Remark::Nothing,
     }
 }
 
