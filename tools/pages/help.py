@@ -7,6 +7,8 @@ import subprocess
 from dataclasses import dataclass, field
 from typing import Dict, List, Optional, Sequence, Tuple
 
+from ssign_keys.explanations import UNPRINTED, read_explanations
+
 OPTION = re.compile(r" +(?:(-\w), )?(--[a-z][a-z0-9-]*)((?: [<{]?[\w.,:]+[>}]?)*)(?:  +(\S.*))?")
 NAMED = re.compile(r" +(\S+)(?:  +(\S.*))?")
 HEADING = re.compile(r"[A-Za-z][a-z ]*:")
@@ -151,10 +153,13 @@ def read_program(path: str, name: str) -> Program:
     commands = [read_command(path, name, it) for it, _ in rows if it not in ("help", "COMMAND")]
     options = options_of(parts)
     version = ask(path, name, ["--version"])[0].strip() if any(it.name == "--version" for it in options) else ""
-    codes: Dict[str, str] = {}
-    if any(it.name == "explain" for it in commands):
-        told = re.search(r"^The codes: (.*)$", ask(path, name, ["explain", "nothing"])[1], re.M)
-        if told is None:
-            raise Unreadable("explain names no codes")
-        codes = {it: ask(path, name, ["explain", it])[0].strip() for it in told[1].split()}
+    codes = read_codes(path) if any(it.name == "explain" for it in commands) else {}
     return Program(name, purpose_of(parts), version, usage_of(parts), options, commands, codes)
+
+
+def read_codes(path: str) -> Dict[str, str]:
+    """The text of each code that the program prints, in its order."""
+    try:
+        return {it.code: it.text for it in read_explanations(path) if it.table != UNPRINTED}
+    except (ValueError, subprocess.SubprocessError) as fault:
+        raise Unreadable(f"{path} explains no codes: {fault}") from fault

@@ -3,10 +3,9 @@ from __future__ import annotations
 
 import argparse
 import re
-import subprocess
 from typing import Callable, Dict, NamedTuple, Optional, Tuple
 
-from .commands import PATIENCE
+from .explanations import explained
 from .faults import Fault
 from .likely import LINES, is_surely_framed, likely_cause, looks_framed
 from .logs import Log
@@ -84,17 +83,12 @@ def fault_of(refused: Refused, program: str, arguments: argparse.Namespace, log:
         return None
     case = Case(refused.where or 0, refused.where is not None, arguments, log, program)
     words = OWN[refused.code](case) if refused.code in OWN else None
-    return Fault(f"{words or explained(case, refused.code)} ({refused.code})")
+    return Fault(f"{words or words_of(case, refused.code)} ({refused.code})")
 
 
-def explained(case: Case, code: str) -> str:
+def words_of(case: Case, code: str) -> str:
     """Where it is, and what ssign explains of the code."""
-    try:
-        run = subprocess.run([case.program, "explain", code], stdin=subprocess.DEVNULL, stdout=subprocess.PIPE,
-                             stderr=subprocess.DEVNULL, timeout=PATIENCE, check=False)
-        text = run.stdout.decode("utf-8", "replace").strip() if run.returncode == 0 else ""
-    except (OSError, subprocess.SubprocessError):
-        text = ""
+    text = explained(case.program, code)
     operand = OPERAND.match(text)
     place = place_of(case, code, operand[1] if operand and case.has_place else "")
     return f"{place}{text[operand.end():] if operand else text or UNEXPLAINED}"
