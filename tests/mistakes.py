@@ -8,6 +8,8 @@ Each command line is run twice: with standard error as a pipe, and as a terminal
 sentence have to be those of the table, and standard output has to be empty. PROGRAM is ssign. The last line is
 `mistakes: N passed, M failed`.
 """
+import functools
+import json
 import os
 import re
 import subprocess
@@ -153,10 +155,21 @@ def write_logs():
     write("count-x", b"count x\n")
 
 
+@functools.lru_cache(maxsize=None)
+def texts(program):
+    """What `ssign explain` knows of each code."""
+    made = subprocess.run([program, "explain", "--json"], stdout=subprocess.PIPE, check=True, timeout=60).stdout.decode()
+    return {it["code"]: it["text"] for it in map(json.loads, made.splitlines())}
+
+
 def explained(program, code):
     """What `ssign explain` prints of a code, without the name of its number, and the code."""
-    text = subprocess.run([program, "explain", code], stdout=subprocess.PIPE, check=True, timeout=60).stdout.decode()
-    return re.sub("^(%s or )?%s [A-Z]+: " % (code, code), "", text.strip()) + " (%s)" % code
+    return re.sub("^(%s or )?%s [A-Z]+: " % (code, code), "", texts(program)[code]) + " (%s)" % code
+
+
+def sentence(program, code):
+    """The first sentence of that, without its full stop."""
+    return texts(program)[code].split(". ")[0]
 
 
 def table(program):
@@ -259,11 +272,11 @@ def table(program):
     yield sign + ["--lines", "frames"], b"", warned % "frames" + "frames: " + framed_too + " (P1)"
     yield sign + ["-"], b"12", "standard input: octet 0: " + cut
     yield sign + ["no-5424"], b"", \
-        "no-5424: place 1 (VERSION, at its octet 4): " + none_of
+        "no-5424: place 1 (M2 at its octet 4: %s): " % sentence(program, "M2") + none_of
     yield sign + ["bad-host"], b"", \
-        "bad-host: place 1 (HOSTNAME, at its octet 8): " + none_of
+        "bad-host: place 1 (M4 at its octet 8: %s): " % sentence(program, "M4") + none_of
     yield sign + ["--lines", "old"], b"", \
-        "old: place 0 (PRI, at its octet 0): " + none_of
+        "old: place 0 (M1 at its octet 0: %s): " % sentence(program, "M1") + none_of
     yield sign + ["block"], b"", "block: place 1: " + is_block
     yield sign + ["signed"], b"", "signed: place 0: " + is_block
 

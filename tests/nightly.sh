@@ -227,7 +227,7 @@ rm logs/large logs/large.frames
 rotated logs/odd
 holds 'odd messages: the status' test "$status" = 1
 holds 'odd messages: it says so' cmp err <(printf '%s\n' "ssign-keys: 2 messages can't be signed, and were set aside in $scratch/logs/odd.set-aside.frames:" \
-    '  place 4: M5 at octet 10: APP-NAME' '  place 11: it has the element ssign or ssign-cert, S2')
+    "  place 4: M5 at octet 10: $(sentence_of M5)" '  place 11: it has the element ssign or ssign-cert, S2')
 holds 'odd messages: they are kept as they came' test "$("$program" extract --place 0 --place 1 --lines-out <logs/odd.set-aside.frames)" = \
     "$(sed -n '5p;12p' logs/odd)"
 holds 'odd messages: their places are kept' cmp logs/odd.set-aside.frames.places <(printf '%s\n' '4 unparsed M5 10' '11 spoilt S2')

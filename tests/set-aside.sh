@@ -59,7 +59,7 @@ for form in log frames; do
     holds "$form: the status" test "$status" = 1
     holds "$form: how many" grep -qxF "ssign-keys: 8 messages can't be signed, and were set aside in aside.$form:" err
     holds "$form: each is named" test "$(grep -c '^  place ' err)" = 8
-    holds "$form: where one is wrong" grep -qxF '  place 1: M5 at octet 10: APP-NAME' err
+    holds "$form: where one is wrong" grep -qxF "  place 1: M5 at octet 10: $(sentence_of M5)" err
     holds "$form: the messages as they came" cmp odd.log <("$program" extract --lines-out --place 0 --place 1 --place 2 --place 3 \
         --place 4 --place 5 --place 6 --place 7 <"aside.$form")
     holds "$form: their places" cmp "aside.$form.places" <(printf '%s\n' "$inspected")

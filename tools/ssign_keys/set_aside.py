@@ -12,6 +12,7 @@ import subprocess
 from types import TracebackType
 from typing import BinaryIO, Dict, Iterator, List, NamedTuple, Optional, Type
 
+from .explanations import first_sentence
 from .faults import Fault
 from .kept_file import KeptFile
 from .logs import Log, Part
@@ -25,12 +26,6 @@ from .workplace import Workplace, finish, put, notify
 COPIED = 1 << 20
 # how many messages are named by their place
 NAMED = 20
-# The parts of a message in which it fails to be one of RFC 5424, section 6, by the numbers that ssign prints.
-PARTS = {
-    "M1": "PRI", "M2": "VERSION", "M3": "TIMESTAMP", "M4": "HOSTNAME", "M5": "APP-NAME", "M6": "PROCID", "M7": "MSGID",
-    "M8": "the syntax of STRUCTURED-DATA", "M9": "a name in STRUCTURED-DATA", "M10": "a value that isn't UTF-8",
-    "M11": "an SD-ID that stands twice", "M12": "MSG that isn't UTF-8",
-}
 BLOCKS = {"signature": "it is a signature block", "certificate": "it is a certificate block",
           "spoilt": "it has the element ssign or ssign-cert"}
 UNREAD = {"empty": "an empty line", "long": "a line that is longer than --max-len", "torn": "the log breaks off in this line"}
@@ -44,15 +39,19 @@ class Odd(NamedTuple):
     what: str
     """What it is, in the words of `ssign inspect`, as `unparsed M3 17`; or of a line that it doesn't read."""
 
-    @property
-    def why(self) -> str:
-        """Why it can't be signed, for a person."""
+    def kind(self, program: str) -> str:
+        """Why it can't be signed, in the words of the program where it has a code."""
         kind, *rest = self.what.split(" ")
         if kind == "unparsed":
-            return f"{rest[0]} at octet {rest[1]}: {PARTS[rest[0]]}"
+            return first_sentence(program, rest[0])
         if kind in UNREAD:
             return UNREAD[kind]
         return BLOCKS[kind] + (f", {rest[0]}" if kind == "spoilt" else "")
+
+    def why(self, program: str) -> str:
+        """The same, with where it fails in front."""
+        kind, *rest = self.what.split(" ")
+        return f"{rest[0]} at octet {rest[1]}: {self.kind(program)}" if kind == "unparsed" else self.kind(program)
 
 
 def add_arguments(parser: argparse.ArgumentParser) -> None:
@@ -97,7 +96,7 @@ class SetAside:
         inspecting = Run(program, ["inspect", "--findings", *words], workplace, progress, readable.rewind(), subprocess.PIPE)
         with workplace.new_file("aside") as messages, workplace.new_file("aside.places") as places:
             kept = workplace.new_file("signable")
-            sorting = Sorting(log, readable, longest, kept, messages, places, progress)
+            sorting = Sorting(program, log, readable, longest, kept, messages, places, progress)
             for it in odd_messages(inspecting.lines(lambda: progress.show("inspecting", readable.position(), readable.size,
                                                                           "octets")), log):
                 sorting.take(it)
@@ -121,7 +120,7 @@ class SetAside:
         said = counted(self.count, "message can't be signed, and was set aside", "messages can't be signed, and were set aside")
         notify(f"ssign-keys: {said} in {shown_name(self._path or '')}:")
         for it in self._sorting.named:
-            notify(f"  place {it.place}: {it.why}")
+            notify(f"  place {it.place}: {it.why(self._sorting.program)}")
         if self.count > len(self._sorting.named):
             for kind, count in sorted(self._sorting.kinds.items()):
                 notify(f"  in all: {kind}, {counted(count, 'message')}")
@@ -183,9 +182,10 @@ def copy(log: Log, start: int, end: int, file: BinaryIO) -> None:
 class Sorting:
     """Goes over a log, and copies each message to one of two files."""
 
-    def __init__(self, whole: Log, log: Log, longest: int, kept: BinaryIO, messages: BinaryIO, places: BinaryIO,
+    def __init__(self, program: str, whole: Log, log: Log, longest: int, kept: BinaryIO, messages: BinaryIO, places: BinaryIO,
                  progress: Progress) -> None:
         """Nothing is copied yet. `log` is the whole one without the lines that ssign doesn't read."""
+        self.program = program
         self._whole = whole
         self._unread = unread_of(whole, longest)
         self._next = next(self._unread, None)
@@ -239,7 +239,7 @@ class Sorting:
         self.count += 1
         if len(self.named) < NAMED:
             self.named.append(odd)
-        kind = odd.why.split(": ")[-1]
+        kind = odd.kind(self.program)
         self.kinds[kind] = self.kinds.get(kind, 0) + 1
 
     def end(self) -> None:

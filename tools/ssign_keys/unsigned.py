@@ -6,14 +6,11 @@ import subprocess
 from typing import Optional
 
 from .commands import PATIENCE
+from .explanations import first_sentence
 from .logs import Log
 from .walk import LONGEST, Walk, read_at
 
 UNPARSED = re.compile(rb"unparsed 0 (M[0-9]{1,2}) ([0-9]+)\n")
-# the parts of a message, by the number that `ssign inspect` gives (docs/messages.md)
-PARTS = {b"M1": "PRI", b"M2": "VERSION", b"M3": "TIMESTAMP", b"M4": "HOSTNAME", b"M5": "APP-NAME", b"M6": "PROCID",
-         b"M7": "MSGID", b"M8": "STRUCTURED-DATA", b"M9": "the name of an element or parameter",
-         b"M10": "the value of a parameter", b"M11": "an SD-ID that stood before", b"M12": "MSG"}
 PIECE = 1 << 20
 
 
@@ -28,7 +25,7 @@ def message_at(log: Log, place: int) -> Optional[bytes]:
 
 
 def part_that_fails(program: str, log: Log, place: int) -> str:
-    """Which part of a message is wrong, as `ssign inspect` says: ` (HOSTNAME, at its octet 5)`, or nothing."""
+    """Which part of a message is wrong, as `ssign inspect` says: ` (M4 at its octet 5: ..)`, or nothing."""
     message = message_at(log, place)
     if not message:
         return ""
@@ -42,7 +39,8 @@ def part_that_fails(program: str, log: Log, place: int) -> str:
         return ""
     octet = int(found[2])
     what = ", a CR" if message[octet:octet + 1] == b"\r" else ""
-    return f" ({PARTS.get(found[1], found[1].decode())}, at its octet {octet}{what})"
+    code = found[1].decode()
+    return f" ({code} at its octet {octet}{what}: {first_sentence(program, code)})"
 
 
 def warning(log: Log) -> Optional[str]:

@@ -18,6 +18,7 @@ from .words import counted
 from .workplace import Workplace, notify
 
 WRAPPED = "wrapped-"
+FORM = "it has the form of a wrap"
 
 
 def add_arguments(parser: argparse.ArgumentParser) -> None:
@@ -37,7 +38,7 @@ class Wrapping:
             raise Fault("--wrap and --set-aside: a message is signed in a wrap or set aside, so leave one of the two out")
         goes_on = arguments.state is not None and arguments.set_aside is None
         self._is_asked: bool = arguments.wrap or goes_on and not arguments.no_wrap
-        self._named: List[Odd] = []
+        self._named: List[str] = []
         self._kinds: Dict[str, int] = {}
 
     def words(self) -> List[str]:
@@ -53,18 +54,17 @@ class Wrapping:
         for line in inspecting.lines(lambda: progress.show("inspecting", log.position(), log.size, "octets")):
             word, *fields = line.decode("ascii").rstrip("\n").split(" ")
             if word.startswith(WRAPPED):
-                self._take(Odd(int(fields[0]), WRAPPED), "it has the form of a wrap")
+                self._take(int(fields[0]), FORM, FORM)
             elif word == "unparsed" or word in BLOCKS:
                 odd = Odd(int(fields[0]), " ".join((word, *fields[1:])) if word in ("unparsed", "spoilt") else word)
-                self._take(odd, odd.why)
+                self._take(odd.place, odd.kind(program), odd.why(program))
             elif word not in ("torn", "end"):
                 raise Fault(f"ssign inspect wrote a line that isn't known here: {word}")
 
-    def _take(self, odd: Odd, why: str) -> None:
+    def _take(self, place: int, kind: str, why: str) -> None:
         """Counts a message."""
         if len(self._named) < NAMED:
-            self._named.append(Odd(odd.place, why))
-        kind = why.split(": ")[-1]
+            self._named.append(f"place {place}: {why}")
         self._kinds[kind] = self._kinds.get(kind, 0) + 1
 
     def notify(self) -> None:
@@ -74,7 +74,7 @@ class Wrapping:
             return
         notify(f"ssign-keys: {counted(count, 'message was', 'messages were')} signed in a wrap each, which holds all its octets:")
         for it in self._named:
-            notify(f"  place {it.place}: {it.what}")
+            notify(f"  {it}")
         if count > len(self._named):
             for kind, many in sorted(self._kinds.items()):
                 notify(f"  in all: {kind}, {counted(many, 'message')}")
