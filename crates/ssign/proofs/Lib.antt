@@ -4,7 +4,7 @@ mod Limits
 mod Readings
 mod CountedMessages
 mod FoundCommands
-mod Flags
+mod GivenFlags
 mod AddedTexts
 mod Spaces
 mod ReadBounds

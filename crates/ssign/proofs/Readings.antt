@@ -1,11 +1,11 @@
 -- What the clauses of `limits_of` and `reading_of` give together.
-use Rattle.std.proofs.Common.{◌≡◌, Bool, true, false, Some, None, codes, refl}
+use Rattle.std.proofs.Common.{◌≡◌, Bool, true, false, Some, None, codes, refl, subst}
 use Rattle.clap.specs.declared.parser.matches.ArgMatches.{ArgMatches}
 use Rattle.ss_frame.specs.Limits.{Allowance}
 use Rattle.ss_frame.specs.declared.limits.Form.{Form}
 use Rattle.ss_frame.specs.declared.limits.Form.TheVariants.{Frames, Lines}
 use Rattle.ss_report.specs.declared.log.read_options.ReadOptions.{ReadOptions}
-use Rattle.ssign.specs.CommandLine.{FlagIs, form_of, reading, reading_in}
+use Rattle.ssign.specs.CommandLine.{form_of, is_given, reading, reading_in}
 use Rattle.ssign.specs.LogOrder.{AreSalvagedLines, GivesLimits, IsReading}
 
 -- a log is read on after damage as the flag says
@@ -15,9 +15,11 @@ salvage_kept Lines l false r e = cc
 salvage_kept Frames l given r e = cc
 
 -- lines aren't read so
-no_lines : (form : Form) (l : Allowance) (r : ReadOptions) → form ≡ Lines → Some r ≡ reading_in form l true → ⊥
-no_lines Lines l r same e = cc
-no_lines Frames l r same e = cc
+no_lines : (form : Form) (l : Allowance) (r : ReadOptions) (lines_given : Bool) → form ≡ form_of lines_given → Some r ≡ reading_in form l true
+    → lines_given ≡ false
+no_lines Lines l r lines_given same e = cc
+no_lines Frames l r true same e = cc
+no_lines Frames l r false same e = refl
 
 -- if a log isn't read, both flags are given
 both_given : (form : Form) (l : Allowance) (salvage_given lines_given : Bool) → form ≡ form_of lines_given → None ≡ reading_in form l salvage_given
@@ -28,17 +30,18 @@ both_given Lines l false lines_given same e = cc
 both_given Frames l salvage_given lines_given same e = cc
 
 pub reading_given : (m : ArgMatches) (l : Allowance) (r : ReadOptions) → GivesLimits m (Some l)
-    → ((salvage_given : Bool) → FlagIs m (codes "salvage") salvage_given → Some r ≡ reading l salvage_given)
+    → Some r ≡ reading l (is_given m (codes "salvage"))
     → r.limits ≡ l
     → IsReading m r
 reading_given m l r limits value same = record {
   limits = rw same limits;
-  salvaged = λ salvage_given is. salvage_kept l.form l salvage_given r (value salvage_given is);
-  frames = λ is_salvage is_lines. no_lines l.form l r (limits.2 true is_lines).1 (value true is_salvage);
+  salvaged = salvage_kept l.form l (is_given m (codes "salvage")) r value;
+  frames = λ is_salvage. no_lines l.form l r (is_given m (codes "lines")) limits.3
+      (subst (λ (salvage_given : Bool). Some r ≡ reading l salvage_given) is_salvage value);
 }
 
 pub salvaged_lines : (m : ArgMatches) (l : Allowance) → GivesLimits m (Some l)
-    → ((salvage_given : Bool) → FlagIs m (codes "salvage") salvage_given → None ≡ reading l salvage_given)
+    → None ≡ reading l (is_given m (codes "salvage"))
     → AreSalvagedLines m
-salvaged_lines m l limits value = λ salvage_given lines_given is_salvage is_lines.
-    both_given l.form l salvage_given lines_given (limits.2 lines_given is_lines).1 (value salvage_given is_salvage)
+salvaged_lines m l limits value =
+    both_given l.form l (is_given m (codes "salvage")) (is_given m (codes "lines")) limits.3 value

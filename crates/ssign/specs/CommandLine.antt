@@ -1,7 +1,8 @@
 -- What the command line gives: its commands, the limits that its options spell, and the exit status of a run.
-use Rattle.std.specs.Prelude.{◌≡◌, ◌≢◌, ◌⊎◌, ◌==◌, ◌&&◌, ℕ, Bool, true, false, List, [], ◌∷◌, Option, Some, None, Result}
+use Rattle.std.specs.Prelude.{◌≡◌, ◌≢◌, ◌==◌, ◌&&◌, ℕ, Bool, true, false, List, [], ◌∷◌, Option, Some, None, Result}
 use Rattle.std.specs.Prelude.{Ok, Err, codes, find, map}
 use Rattle.std.specs.List.{starts_with}
+use Rattle.std.specs.Option.{option_map_or}
 use Rattle.std.specs.Str.{bytes_eq}
 use Rattle.std.specs.Str.Parse.{IsNumeral, digits_value, without_leading_plus}
 use Rattle.clap.specs.Words.{App, IsAmong, Kinds, Rule, app_of, fault_of, found_of, new_app, one_text}
@@ -44,10 +45,12 @@ SpellsNumber text n = IsNumeral 10 (without_leading_plus text) × (digits_value 
 abbrev pub HasNumber : ArgMatches → List ℕ → ℕ → Type 0
 HasNumber matches option n = (text : List ℕ) × (text_of matches option ≡ Some text) × SpellsNumber text n
 
--- the flag is given, or isn't
-abbrev pub FlagIs : ArgMatches → List ℕ → Bool → Type 0
-FlagIs matches flag true = text_of matches flag ≡ Some (codes "true")
-FlagIs matches flag false = (text_of matches flag ≡ Some (codes "false")) ⊎ (text_of matches flag ≡ None)
+-- the flag is given: its text is `true`
+abbrev pub is_true : Option (List ℕ) → Bool
+is_true text = option_map_or (λ t. bytes_eq t (codes "true")) text false
+
+unfoldable pub is_given : ArgMatches → List ℕ → Bool
+is_given matches flag = is_true (text_of matches flag)
 
 abbrev pub form_of : Bool → Form
 form_of true = Lines

@@ -1,5 +1,5 @@
 -- What a command over a log does, by its options and by the files that they name.
-use Rattle.std.specs.Prelude.{◌≡◌, ℕ, Bool, true, false, ◌||◌, List, Option, Some, None, Result, Ok, Err, codes}
+use Rattle.std.specs.Prelude.{◌≡◌, ℕ, true, false, ◌||◌, List, Option, Some, None, Result, Ok, Err, codes}
 use Rattle.std.specs.Option.{is_some}
 use Rattle.clap.specs.Words.{first_value, found_of}
 use Rattle.clap.specs.declared.parser.matches.ArgMatches.{ArgMatches}
@@ -12,7 +12,7 @@ use Rattle.ss_report.specs.declared.runs.extraction.Extraction.{Extraction}
 use Rattle.ss_report.specs.declared.verdict.verdict.Verdict.{Verdict}
 use Rattle.ss_report.specs.runs.Run.{Job, Runs, Stops}
 use Rattle.ss_answers.specs.Answers.{Answer, trusted, valid}
-use Rattle.ssign.specs.CommandLine.{FlagIs, HasNumber, form_of, reporting}
+use Rattle.ssign.specs.CommandLine.{HasNumber, form_of, is_given, reporting}
 use Rattle.ssign.specs.Extraction.{GivesExtraction, texts_given}
 use Rattle.ssign.specs.GivenFiles.{Contents, Gives}
 use Rattle.ssign.specs.Task.{job_of}
@@ -32,37 +32,29 @@ path_in m option = first_value (found_of m) option
 abbrev pub GivesLimits : ArgMatches → Option Allowance → Type 0
 GivesLimits m (Some l) =
     HasNumber m (codes "max-len") l.max_len × HasNumber m (codes "max-messages") l.max_messages
-    × ((lines_given : Bool) → FlagIs m (codes "lines") lines_given
-    → InRange l.max_len l.max_messages × (l.form ≡ form_of lines_given))
-GivesLimits m None = (a b : ℕ) (lines_given : Bool) → HasNumber m (codes "max-len") a
-    → HasNumber m (codes "max-messages") b → FlagIs m (codes "lines") lines_given → ¬ InRange a b
+    × InRange l.max_len l.max_messages × (l.form ≡ form_of (is_given m (codes "lines")))
+GivesLimits m None = (a b : ℕ) → HasNumber m (codes "max-len") a → HasNumber m (codes "max-messages") b → ¬ InRange a b
 
 -- how a log is read: within these limits, and on after damage exactly with `--salvage`. `--lines` isn't given beside it.
 pub record IsReading (m : ArgMatches) (r : ReadOptions) : Type 0 where
   pub limits : GivesLimits m (Some r.limits)
-  pub salvaged : (salvage_given : Bool) → FlagIs m (codes "salvage") salvage_given → r.salvage ≡ salvage_given
-  pub frames : FlagIs m (codes "salvage") true → ¬ FlagIs m (codes "lines") true
+  pub salvaged : r.salvage ≡ is_given m (codes "salvage")
+  pub frames : is_given m (codes "salvage") ≡ true → is_given m (codes "lines") ≡ false
 
 -- both `--salvage` and `--lines` are given
 abbrev pub AreSalvagedLines : ArgMatches → Type 0
-AreSalvagedLines m = (salvage_given lines_given : Bool) → FlagIs m (codes "salvage") salvage_given
-    → FlagIs m (codes "lines") lines_given → (salvage_given ≡ true) × (lines_given ≡ true)
+AreSalvagedLines m = (is_given m (codes "salvage") ≡ true) × (is_given m (codes "lines") ≡ true)
 
 -- what is to be extracted, or why the options don't name it
 abbrev pub IsExtraction : ArgMatches → Result Extraction ExtractionFault → Type 0
-IsExtraction m result = (unlisted_given lines_given unwrap_given : Bool)
-    → FlagIs m (codes "unlisted") unlisted_given → FlagIs m (codes "lines-out") lines_given
-    → FlagIs m (codes "unwrap") unwrap_given
-    → GivesExtraction unlisted_given (texts_given m (codes "place")) lines_given unwrap_given result
+IsExtraction m result = GivesExtraction (is_given m (codes "unlisted")) (texts_given m (codes "place"))
+    (is_given m (codes "lines-out")) (is_given m (codes "unwrap")) result
 
 -- how a log is reported
 abbrev pub IsReporting : ArgMatches → Reporting → Type 0
-IsReporting m r = (findings_given json_given whole_given tally_given once_given unwrap_given : Bool)
-    → FlagIs m (codes "findings") findings_given → FlagIs m (codes "json") json_given
-    → FlagIs m (codes "whole") whole_given → FlagIs m (codes "tally") tally_given
-    → FlagIs m (codes "once") once_given → FlagIs m (codes "unwrap") unwrap_given
-    → r ≡ reporting findings_given json_given (whole_given || is_some (path_in m (codes "counters"))
-    || is_some (path_in m (codes "from"))) tally_given once_given unwrap_given
+IsReporting m r = r ≡ reporting (is_given m (codes "findings")) (is_given m (codes "json"))
+    (is_given m (codes "whole") || is_some (path_in m (codes "counters")) || is_some (path_in m (codes "from")))
+    (is_given m (codes "tally")) (is_given m (codes "once")) (is_given m (codes "unwrap"))
 
 -- ---- what is asked
 

@@ -1,5 +1,5 @@
 -- What `plan` and `sign` do, by their options and by the files that they name.
-use Rattle.std.specs.Prelude.{◌≡◌, ◌⊎◌, ℕ, Bool, true, List, Option, Some, None, Result, Ok, Err, codes}
+use Rattle.std.specs.Prelude.{◌≡◌, ◌⊎◌, ℕ, true, List, Option, Some, None, Result, Ok, Err, codes}
 use Rattle.clap.specs.declared.parser.matches.ArgMatches.{ArgMatches}
 use Rattle.ss_block.specs.Writing.{head_session}
 use Rattle.ss_frame.specs.Limits.{Allowance}
@@ -14,7 +14,7 @@ use Rattle.ss_signing.specs.Accepted.{started}
 use Rattle.ss_signing.specs.Run.{Job, Signs, Stops}
 use Rattle.ss_answers.specs.Answers.{Answer}
 use Rattle.ss_answers.specs.Start.{IsStartFault, start_of}
-use Rattle.ssign.specs.CommandLine.{FlagIs, form_of}
+use Rattle.ssign.specs.CommandLine.{form_of, is_given}
 use Rattle.ssign.specs.GivenFiles.{Contents, Gives}
 use Rattle.ssign.specs.LogOrder.{GivesLimits, HasLimits, path_in}
 use Rattle.ssign.specs.Settings.{HasChoices, HasTexts, IsRead}
@@ -37,9 +37,11 @@ HasNoSettings m = (c : Choices) (t : Texts) → HasChoices m c → HasTexts m t 
 
 -- how a log is signed beside its settings
 abbrev pub IsSending : ArgMatches → Sending → Type 0
-IsSending m s = (ahead_given wrap_given lines_given : Bool) → FlagIs m (codes "ahead") ahead_given
-    → FlagIs m (codes "wrap") wrap_given → FlagIs m (codes "lines-out") lines_given
-    → s ≡ record { ahead = ahead_given; wrap = wrap_given; out = form_of lines_given }
+IsSending m s = s ≡ record {
+  ahead = is_given m (codes "ahead");
+  wrap = is_given m (codes "wrap");
+  out = form_of (is_given m (codes "lines-out"));
+}
 
 -- ---- where an originator goes on
 

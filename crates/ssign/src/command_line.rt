@@ -1,10 +1,10 @@
 //! The command line.
-ghost use Rattle.std.specs.Prelude.{◌≡◌, ◌<◌, ◌^◌, ◌||◌, ℕ, Bool, Some, codes, decimal, IfOk, IfSome};
+ghost use Rattle.std.specs.Prelude.{◌≡◌, ◌<◌, ◌^◌, ◌||◌, ℕ, Some, codes, decimal, IfOk, IfSome};
 ghost use Rattle.std.specs.Prelude.{map, option_and_then, option_map};
 ghost use Rattle.std.specs.Option.{SomeIff, is_some};
 ghost use Rattle.clap.specs.Words.{App, app_of, first_value, found_of, kind_of, matched_of, new_app, raw_values};
 ghost use Rattle.ss_frame.specs.Limits.{InRange};
-ghost use Rattle.ssign.specs.CommandLine.{FlagIs, HasNumber, IsLocalApp, bare_app, detail_of, form_of, limits_with};
+ghost use Rattle.ssign.specs.CommandLine.{HasNumber, IsLocalApp, bare_app, detail_of, form_of, is_given, limits_with};
 ghost use Rattle.ssign.specs.CommandLine.{name_of, order_app, order_in, own_rules, payloads_of, reading, report_form};
 ghost use Rattle.ssign.specs.CommandLine.{reporting, shared_rules, ssign_app, text_of, with_commands, with_rules};
 ghost use Rattle.ssign.specs.Explanation.{asked_of};
@@ -15,6 +15,7 @@ use crate::arguments::option;
 use crate::asked::asked_of;
 use crate::commands::{CommandRow, Note};
 use crate::extraction::form_out;
+use crate::flags::is_given;
 use crate::options::{OptionRow, Value};
 use crate::signing::{Sending, Signing};
 use crate::task::{Reporting, Task};
@@ -259,13 +260,15 @@ pub fn resume_file<'a>(matches: &ArgMatches<'a>) -> Option<&'a str>
 
 /// How a log is signed beside its settings: by `--ahead` and `--wrap`, and as frames without `--lines-out`.
 pub fn sending_of(matches: &ArgMatches<'_>) -> Sending
-    ensures { (ahead_given wrap_given lines_given : Bool) → FlagIs matches.now (codes "ahead") ahead_given
-        → FlagIs matches.now (codes "wrap") wrap_given → FlagIs matches.now (codes "lines-out") lines_given
-        → result ≡ record { ahead = ahead_given; wrap = wrap_given; out = form_of lines_given } }
+    ensures { result ≡ record {
+      ahead = is_given matches.now (codes "ahead");
+      wrap = is_given matches.now (codes "wrap");
+      out = form_of (is_given matches.now (codes "lines-out"));
+    } }
 {
     Sending {
-        ahead: matches.get_flag(options::AHEAD.name),
-        wrap: matches.get_flag(options::WRAP.name),
+        ahead: is_given(matches, options::AHEAD.name),
+        wrap: is_given(matches, options::WRAP.name),
         out: form_out(matches),
     }
 }
@@ -293,16 +296,15 @@ pub fn pinned_file<'a>(matches: &ArgMatches<'a>) -> Option<&'a str>
 
 /// The form of a report that the flags ask for. A command without these flags has plain text.
 fn form_of_report(matches: &ArgMatches<'_>) -> ReportForm
-    ensures { (findings_given json_given : Bool) → FlagIs matches.now (codes "findings") findings_given
-        → FlagIs matches.now (codes "json") json_given → result ≡ report_form findings_given json_given }
+    ensures { result ≡ report_form (is_given matches.now (codes "findings")) (is_given matches.now (codes "json")) }
 {
-    if matches.get_flag(options::FINDINGS.name) {
-        if matches.get_flag(options::JSON.name) {
+    if is_given(matches, options::FINDINGS.name) {
+        if is_given(matches, options::JSON.name) {
             ReportForm::JsonFindings
         } else {
             ReportForm::Findings
         }
-    } else if matches.get_flag(options::JSON.name) {
+    } else if is_given(matches, options::JSON.name) {
         ReportForm::Json
     } else {
         ReportForm::Text
@@ -311,9 +313,9 @@ fn form_of_report(matches: &ArgMatches<'_>) -> ReportForm
 
 /// Whether the flag asks for tallies. A command without it lists each item.
 fn detail_of_report(matches: &ArgMatches<'_>) -> Detail
-    ensures { (tally_given : Bool) → FlagIs matches.now (codes "tally") tally_given → result ≡ detail_of tally_given }
+    ensures { result ≡ detail_of (is_given matches.now (codes "tally")) }
 {
-    if matches.get_flag(options::TALLY.name) {
+    if is_given(matches, options::TALLY.name) {
         Detail::Tally
     } else {
         Detail::Itemized
@@ -322,9 +324,9 @@ fn detail_of_report(matches: &ArgMatches<'_>) -> Detail
 
 /// Whether the flag asks for each payload once. A command without it has each payload in each question.
 fn payloads_of_questions(matches: &ArgMatches<'_>) -> Payloads
-    ensures { (once_given : Bool) → FlagIs matches.now (codes "once") once_given → result ≡ payloads_of once_given }
+    ensures { result ≡ payloads_of (is_given matches.now (codes "once")) }
 {
-    if matches.get_flag(options::ONCE.name) {
+    if is_given(matches, options::ONCE.name) {
         Payloads::Once
     } else {
         Payloads::InEach
@@ -334,30 +336,27 @@ fn payloads_of_questions(matches: &ArgMatches<'_>) -> Payloads
 /// How a log is to be reported: a review with what is missing beside it where `--whole`, `--counters` or `--from` is
 /// given. A command without these flags has plain text alone.
 pub fn reporting_of(matches: &ArgMatches<'_>) -> Reporting
-    ensures { (findings_given json_given whole_given tally_given once_given unwrap_given : Bool)
-        → FlagIs matches.now (codes "findings") findings_given → FlagIs matches.now (codes "json") json_given
-        → FlagIs matches.now (codes "whole") whole_given → FlagIs matches.now (codes "tally") tally_given
-        → FlagIs matches.now (codes "once") once_given → FlagIs matches.now (codes "unwrap") unwrap_given
-        → result ≡ reporting findings_given json_given (whole_given
-        || is_some (first_value (found_of matches.now) (codes "counters"))
-        || is_some (first_value (found_of matches.now) (codes "from"))) tally_given once_given unwrap_given }
+    ensures { result ≡ reporting (is_given matches.now (codes "findings")) (is_given matches.now (codes "json"))
+        (is_given matches.now (codes "whole") || is_some (first_value (found_of matches.now) (codes "counters"))
+        || is_some (first_value (found_of matches.now) (codes "from"))) (is_given matches.now (codes "tally"))
+        (is_given matches.now (codes "once")) (is_given matches.now (codes "unwrap")) }
 {
     Reporting {
         form: form_of_report(matches),
-        whole: matches.get_flag(options::WHOLE.name)
+        whole: is_given(matches, options::WHOLE.name)
             || counters_file(matches).is_some()
             || from_file(matches).is_some(),
         detail: detail_of_report(matches),
         payloads: payloads_of_questions(matches),
-        unwrap: matches.get_flag(options::UNWRAP.name),
+        unwrap: is_given(matches, options::UNWRAP.name),
     }
 }
 
 /// The form in which a log is stored, by `--lines`.
 pub fn form_in(matches: &ArgMatches<'_>) -> Form
-    ensures { (lines_given : Bool) → FlagIs matches.now (codes "lines") lines_given → result ≡ form_of lines_given }
+    ensures { result ≡ form_of (is_given matches.now (codes "lines")) }
 {
-    if matches.get_flag(options::LINES.name) {
+    if is_given(matches, options::LINES.name) {
         Form::Lines
     } else {
         Form::Frames
@@ -367,20 +366,19 @@ pub fn form_in(matches: &ArgMatches<'_>) -> Form
 /// The limits that the options give. `None` where an option has no number in its range, which a parse by `command`
 /// doesn't let through.
 pub fn limits_of(matches: &ArgMatches<'_>) -> Option<Limits>
-    ensures value { (a b : ℕ) (lines_given : Bool) → HasNumber matches.now (codes "max-len") a
-        → HasNumber matches.now (codes "max-messages") b → FlagIs matches.now (codes "lines") lines_given
-        → SomeIff result (InRange a b) (limits_with a b lines_given) }
-    ensures decimal { (a b : ℕ) (lines_given : Bool) → a < 2 ^ 32 → b < 2 ^ 32
+    ensures value { (a b : ℕ) → HasNumber matches.now (codes "max-len") a → HasNumber matches.now (codes "max-messages") b
+        → SomeIff result (InRange a b) (limits_with a b (is_given matches.now (codes "lines"))) }
+    ensures decimal { (a b : ℕ) → a < 2 ^ 32 → b < 2 ^ 32
         → text_of matches.now (codes "max-len") ≡ Some (decimal a)
         → text_of matches.now (codes "max-messages") ≡ Some (decimal b)
-        → FlagIs matches.now (codes "lines") lines_given → SomeIff result (InRange a b) (limits_with a b lines_given) }
+        → SomeIff result (InRange a b) (limits_with a b (is_given matches.now (codes "lines"))) }
     ensures numbers { IfSome result (λ l. HasNumber matches.now (codes "max-len") l.max_len
         × HasNumber matches.now (codes "max-messages") l.max_messages) }
 {
     let max_len = matches.get_one::<u32>(options::MAX_LEN.name)?;
     let max_messages = matches.get_one::<u32>(options::MAX_MESSAGES.name)?;
     let limits = Limits::new(max_len, max_messages)?;
-    if matches.get_flag(options::LINES.name) {
+    if is_given(matches, options::LINES.name) {
         Some(limits.lines())
     } else {
         Some(limits)
@@ -390,11 +388,10 @@ pub fn limits_of(matches: &ArgMatches<'_>) -> Option<Limits>
 /// How a log is read: within these limits, and on after damage if `--salvage` is given. `None` exactly where it is given
 /// for a log of lines. A command without it reads nothing after damage.
 pub fn reading_of(limits: Limits, matches: &ArgMatches<'_>) -> Option<ReadOptions>
-    ensures value { (salvage_given : Bool) → FlagIs matches.now (codes "salvage") salvage_given
-        → result ≡ reading limits salvage_given }
+    ensures value { result ≡ reading limits (is_given matches.now (codes "salvage")) }
     ensures limits { IfSome result (λ r. r.limits ≡ limits) }
 {
-    reading_with(limits, matches.get_flag(options::SALVAGE.name))
+    reading_with(limits, is_given(matches, options::SALVAGE.name))
 }
 
 /// How a log is read within these limits, with or without `--salvage`. `None` exactly for lines with it.

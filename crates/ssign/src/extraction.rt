@@ -1,12 +1,13 @@
 //! What the options of an extract ask for.
-ghost use Rattle.std.specs.Prelude.{◌≡◌, ◌≢◌, ◌<◌, ◌^◌, ◌↔◌, ℕ, Bool, List, Contains, map, option_map, None, Ok};
+ghost use Rattle.std.specs.Prelude.{◌≡◌, ◌≢◌, ◌<◌, ◌^◌, ◌↔◌, ℕ, List, Contains, map, option_map, None, Ok};
 ghost use Rattle.std.specs.Prelude.{codes, IfOk, IfErr, IsErrOf};
 ghost use Rattle.std.specs.List.{AllByRecursion};
 ghost use Rattle.std.specs.List.Sorted.{IsStrictlyIncreasing};
-ghost use Rattle.ssign.specs.CommandLine.{FlagIs, form_of};
+ghost use Rattle.ssign.specs.CommandLine.{form_of, is_given};
 ghost use Rattle.ssign.specs.Extraction.{AreInOrder, GivesExtraction, Selects, SpellNumbers, texts_given};
 ghost use Rattle.ssign.specs.declared.extraction.ExtractionFault.TheVariants.{Both, Memory, NoNumber};
 
+use crate::flags::is_given;
 use crate::options;
 use clap::ArgMatches;
 use ss_frame::Form;
@@ -35,17 +36,16 @@ impl<T: Drop> From<AllocFailed<T>> for ExtractionFault {
 
 /// What is to be extracted by the options. A command without them has the listed messages as frames, as they stand.
 pub fn extraction_of(alloc: Global, matches: &ArgMatches<'_>) -> Result<Extraction, ExtractionFault>
-    ensures { (unlisted_given lines unwrap_given : Bool) → FlagIs matches.now (codes "unlisted") unlisted_given
-        → FlagIs matches.now (codes "lines-out") lines → FlagIs matches.now (codes "unwrap") unwrap_given
-        → GivesExtraction unlisted_given (texts_given matches.now (codes "place")) lines unwrap_given result }
+    ensures { GivesExtraction (is_given matches.now (codes "unlisted")) (texts_given matches.now (codes "place"))
+        (is_given matches.now (codes "lines-out")) (is_given matches.now (codes "unwrap")) result }
 {
     let selection = selection_of(
         alloc,
         matches.get_strs(options::PLACE.name),
-        matches.get_flag(options::UNLISTED.name),
+        is_given(matches, options::UNLISTED.name),
     )?;
     let form = form_out(matches);
-    let unwrap = matches.get_flag(options::UNWRAP.name);
+    let unwrap = is_given(matches, options::UNWRAP.name);
     Ok(Extraction {
         selection,
         form,
@@ -55,9 +55,9 @@ pub fn extraction_of(alloc: Global, matches: &ArgMatches<'_>) -> Result<Extracti
 
 /// The form in which messages are to be written.
 pub fn form_out(matches: &ArgMatches<'_>) -> Form
-    ensures { (lines : Bool) → FlagIs matches.now (codes "lines-out") lines → result ≡ form_of lines }
+    ensures { result ≡ form_of (is_given matches.now (codes "lines-out")) }
 {
-    if matches.get_flag(options::LINES_OUT.name) {
+    if is_given(matches, options::LINES_OUT.name) {
         Form::Lines
     } else {
         Form::Frames

@@ -10,6 +10,7 @@ mod explain;
 mod explanations;
 mod extraction;
 mod first_octets;
+mod flags;
 mod given_files;
 mod groups_text;
 pub mod laws;

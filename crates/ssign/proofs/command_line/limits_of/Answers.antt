@@ -8,8 +8,7 @@ use Rattle.std.proofs.lemmas.Str.Parse.{digit_from_value}
 use Rattle.clap.specs.Words.{ReadsOne}
 use Rattle.clap.specs.declared.parser.matches.ArgMatches.{ArgMatches}
 use Rattle.ss_frame.specs.Limits.{InRange}
-use Rattle.ssign.specs.CommandLine.{HasNumber, SpellsNumber, text_of}
-use Rattle.ssign.proofs.Flags.{flag_is}
+use Rattle.ssign.specs.CommandLine.{HasNumber, SpellsNumber, is_given, text_of}
 use Rattle.ssign.proofs.command_line.limits_of.Goals as goal
 
 -- what `from_str` of a u32 states about its answer
@@ -60,29 +59,29 @@ has_number m option v none value = by_text (text_of m option) refl
         (text, e, (read.0.0.0, sym read.0.1))
 
 pub returns-in_err-max_len-clause-value : goal.returns-in_err-max_len-clause-value
-returns-in_err-max_len-clause-value c = λ a b given has_a has_b flag.
+returns-in_err-max_len-clause-value c = λ a b has_a has_b.
     rw c.from_residual.ensures (λ (range : InRange a b).
     let read = number_read c.args.matches.now (codes "max-len") None a c.in_err-max_len.ensures.value has_a (omega (arith, range.at_most_a_mebibyte)) in
     absurd cc)
 
 pub returns-in_err-max_len-clause-decimal : goal.returns-in_err-max_len-clause-decimal
-returns-in_err-max_len-clause-decimal c = λ a b given small_a small_b is_a is_b.
+returns-in_err-max_len-clause-decimal c = λ a b small_a small_b is_a is_b.
     let m = c.args.matches.now in
-    returns-in_err-max_len-clause-value c a b given (has_decimal m _ a small_a is_a) (has_decimal m _ b small_b is_b)
+    returns-in_err-max_len-clause-value c a b (has_decimal m _ a small_a is_a) (has_decimal m _ b small_b is_b)
 
 pub returns-in_err-max_messages-clause-value : goal.returns-in_err-max_messages-clause-value
-returns-in_err-max_messages-clause-value c = λ a b given has_a has_b flag.
+returns-in_err-max_messages-clause-value c = λ a b has_a has_b.
     rw c.from_residual-in_err-max_messages.ensures (λ (range : InRange a b).
     let read = number_read c.args.matches.now (codes "max-messages") None b c.in_err-max_messages.ensures.value has_b (omega (arith, range.at_most_ten_million)) in
     absurd cc)
 
 pub returns-in_err-max_messages-clause-decimal : goal.returns-in_err-max_messages-clause-decimal
-returns-in_err-max_messages-clause-decimal c = λ a b given small_a small_b is_a is_b.
+returns-in_err-max_messages-clause-decimal c = λ a b small_a small_b is_a is_b.
     let m = c.args.matches.now in
-    returns-in_err-max_messages-clause-value c a b given (has_decimal m _ a small_a is_a) (has_decimal m _ b small_b is_b)
+    returns-in_err-max_messages-clause-value c a b (has_decimal m _ a small_a is_a) (has_decimal m _ b small_b is_b)
 
 pub returns-in_err-limits-clause-value : goal.returns-in_err-limits-clause-value
-returns-in_err-limits-clause-value c = λ a b given has_a has_b flag.
+returns-in_err-limits-clause-value c = λ a b has_a has_b.
     let m = c.args.matches.now in
     let same_a = number_is m (codes "max-len") c.in_ok-max_len.max_len a c.in_ok-max_len.ensures.value has_a in
     let same_b = number_is m (codes "max-messages") c.in_ok-max_messages.max_messages b c.in_ok-max_messages.ensures.value has_b in
@@ -91,27 +90,26 @@ returns-in_err-limits-clause-value c = λ a b given has_a has_b flag.
     cc)
 
 pub returns-in_err-limits-clause-decimal : goal.returns-in_err-limits-clause-decimal
-returns-in_err-limits-clause-decimal c = λ a b given small_a small_b is_a is_b.
+returns-in_err-limits-clause-decimal c = λ a b small_a small_b is_a is_b.
     let m = c.args.matches.now in
-    returns-in_err-limits-clause-value c a b given (has_decimal m _ a small_a is_a) (has_decimal m _ b small_b is_b)
+    returns-in_err-limits-clause-value c a b (has_decimal m _ a small_a is_a) (has_decimal m _ b small_b is_b)
 
-pub returns-then-get_flag-clause-value : goal.returns-then-get_flag-clause-value
-returns-then-get_flag-clause-value c = λ a b given has_a has_b flag.
+pub returns-then-is_given-clause-value : goal.returns-then-is_given-clause-value
+returns-then-is_given-clause-value c = λ a b has_a has_b.
     let m = c.args.matches.now in
     let same_a = number_is m (codes "max-len") c.in_ok-max_len.max_len a c.in_ok-max_len.ensures.value has_a in
     let same_b = number_is m (codes "max-messages") c.in_ok-max_messages.max_messages b c.in_ok-max_messages.ensures.value has_b in
-    let same_form : given ≡ true =
-    flag_is m (codes "lines") c.get_flag.result given c.get_flag.ensures.none c.get_flag.ensures.value c.get_flag.ensures.other flag ∙ c.if-get_flag.true in
+    let same_form : is_given m (codes "lines") ≡ true = sym c.is_given.ensures ∙ c.if-is_given.true in
     let made = rw c.in_ok-limits.ensures.value at c.lines.ensures in
     rw (same_a, same_b, same_form) (c.in_ok-limits.ensures.valid.0 refl, made)
 
-pub returns-then-get_flag-clause-decimal : goal.returns-then-get_flag-clause-decimal
-returns-then-get_flag-clause-decimal c = λ a b given small_a small_b is_a is_b.
+pub returns-then-is_given-clause-decimal : goal.returns-then-is_given-clause-decimal
+returns-then-is_given-clause-decimal c = λ a b small_a small_b is_a is_b.
     let m = c.args.matches.now in
-    returns-then-get_flag-clause-value c a b given (has_decimal m _ a small_a is_a) (has_decimal m _ b small_b is_b)
+    returns-then-is_given-clause-value c a b (has_decimal m _ a small_a is_a) (has_decimal m _ b small_b is_b)
 
-pub returns-then-get_flag-clause-numbers : goal.returns-then-get_flag-clause-numbers
-returns-then-get_flag-clause-numbers c =
+pub returns-then-is_given-clause-numbers : goal.returns-then-is_given-clause-numbers
+returns-then-is_given-clause-numbers c =
     let m = c.args.matches.now in
     let made = rw c.in_ok-limits.ensures.value at c.lines.ensures in
     rw made (
@@ -119,22 +117,21 @@ returns-then-get_flag-clause-numbers c =
       has_number m (codes "max-messages") c.in_ok-max_messages.max_messages c.in_ok-max_messages.ensures.none c.in_ok-max_messages.ensures.value,
     )
 
-pub returns-else-get_flag-clause-value : goal.returns-else-get_flag-clause-value
-returns-else-get_flag-clause-value c = λ a b given has_a has_b flag.
+pub returns-else-is_given-clause-value : goal.returns-else-is_given-clause-value
+returns-else-is_given-clause-value c = λ a b has_a has_b.
     let m = c.args.matches.now in
     let same_a = number_is m (codes "max-len") c.in_ok-max_len.max_len a c.in_ok-max_len.ensures.value has_a in
     let same_b = number_is m (codes "max-messages") c.in_ok-max_messages.max_messages b c.in_ok-max_messages.ensures.value has_b in
-    let same_form : given ≡ false =
-    flag_is m (codes "lines") c.get_flag.result given c.get_flag.ensures.none c.get_flag.ensures.value c.get_flag.ensures.other flag ∙ c.if-get_flag.false in
+    let same_form : is_given m (codes "lines") ≡ false = sym c.is_given.ensures ∙ c.if-is_given.false in
     rw (same_a, same_b, same_form) (c.in_ok-limits.ensures.valid.0 refl, c.in_ok-limits.ensures.value)
 
-pub returns-else-get_flag-clause-decimal : goal.returns-else-get_flag-clause-decimal
-returns-else-get_flag-clause-decimal c = λ a b given small_a small_b is_a is_b.
+pub returns-else-is_given-clause-decimal : goal.returns-else-is_given-clause-decimal
+returns-else-is_given-clause-decimal c = λ a b small_a small_b is_a is_b.
     let m = c.args.matches.now in
-    returns-else-get_flag-clause-value c a b given (has_decimal m _ a small_a is_a) (has_decimal m _ b small_b is_b)
+    returns-else-is_given-clause-value c a b (has_decimal m _ a small_a is_a) (has_decimal m _ b small_b is_b)
 
-pub returns-else-get_flag-clause-numbers : goal.returns-else-get_flag-clause-numbers
-returns-else-get_flag-clause-numbers c =
+pub returns-else-is_given-clause-numbers : goal.returns-else-is_given-clause-numbers
+returns-else-is_given-clause-numbers c =
     let m = c.args.matches.now in
     rw c.in_ok-limits.ensures.value (
       has_number m (codes "max-len") c.in_ok-max_len.max_len c.in_ok-max_len.ensures.none c.in_ok-max_len.ensures.value,
