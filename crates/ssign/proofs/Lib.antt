@@ -6,6 +6,9 @@ mod CountedMessages
 mod FoundCommands
 mod GivenFlags
 mod AddedTexts
+mod Endings
+mod NamedCommands
+mod Statuses
 mod Spaces
 mod ReadBounds
 mod Openings

@@ -14,6 +14,7 @@ pub mod Extraction
 pub mod FirstOctets
 pub mod LikelyCause
 pub mod Remark
+pub mod Outcome
 pub mod MessageCount
 pub mod Progress
 pub mod ReadBack

@@ -8,7 +8,7 @@ use Rattle.ss_frame.specs.Watched.{Source, Sink}
 use Rattle.ss_report.specs.declared.fault.RunFault.TheVariants as run
 use Rattle.ss_report.specs.declared.verdict.verdict.Verdict.{Verdict}
 use Rattle.ss_report.specs.declared.verdict.verdict.Verdict.TheVariants.{Clean, Findings}
-use Rattle.ssign.specs.CommandLine.{FlagIs}
+use Rattle.ssign.specs.CommandLine.{is_given}
 use Rattle.ssign.specs.Explanation.{asked_of, explained}
 use Rattle.ssign.specs.GivenFiles.{Contents}
 use Rattle.ssign.specs.LogOrder.{EndsLog}
@@ -44,9 +44,7 @@ EndsTold t json code was is (Err refusal) =
 
 -- so ends a command by its options
 abbrev pub EndsExplaining : Tables → ArgMatches → (was is : Sink) → Result Verdict Refusal → Type 0
-EndsExplaining t m was is result =
-    (json : Bool) × ((json_given : Bool) → FlagIs m (codes "json") json_given → json ≡ json_given)
-    × EndsTold t json (code_in m) was is result
+EndsExplaining t m was is result = EndsTold t (is_given m (codes "json")) (code_in m) was is result
 
 -- What the command does that asks for this: over these files and tables, from this reader to this writer. An explanation
 -- leaves the reader alone.

@@ -218,13 +218,6 @@ pub fn code_missing(alloc: Global) -> Result<Error, AllocError>
         )
 }
 
-/// Whether `--json` asks for objects.
-pub fn asks_for_json(matches: &ArgMatches<'_>) -> bool
-    ensures { (json_given : Bool) → FlagIs matches.now (codes "json") json_given → result ≡ json_given }
-{
-    matches.get_flag(options::JSON.name)
-}
-
 /// The code that is asked about: empty, if no word names one, and none, if no word is given at all.
 pub fn given_code<'a>(matches: &ArgMatches<'a>) -> Option<&'a str>
     ensures { option_map (λ s. s.now) result ≡ code_in matches.now }

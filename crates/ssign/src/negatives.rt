@@ -1,19 +1,28 @@
 //! Negative numbers in options, which are mistakes: naming the range of the option.
-use crate::command_line::negative_command;
-use clap::error::ErrorKind;
-use std::alloc::AllocError;
+ghost use Rattle.std.specs.Prelude.{◌≡◌, IfSome};
+ghost use Rattle.clap.specs.Words.{kind_of};
 
-/// Reads the words once more, with options that take negative numbers as values. Prints on standard error which range
-/// such a number is out of. Answers whether it did so: it doesn't if the mistake is another one.
+use crate::command_line::negative_command;
+use clap::Error;
+use clap::error::ErrorKind;
+use std::alloc::Global;
+
+/// Reads the words once more, with options that take negative numbers as values. The fault names the range that such a
+/// number is out of. `None` if the mistake is another one, or memory runs out.
 ///
 /// The commands themselves take no word that begins with a hyphen as a value, and so would only say that `-1` is an
 /// unexpected argument.
-pub fn reports_negative<R: Print + Eprint + AllocGlobal>(rt: &R, words: &[String]) -> bool {
-    let Ok(command) = negative_command(rt.alloc()) else {
-        return false;
+pub fn negative_fault(alloc: Global, words: &[String]) -> Option<Error>
+    ensures { IfSome result (λ fault. kind_of fault ≡ ErrorKind.ValueValidation) }
+{
+    let Ok(command) = negative_command(alloc) else {
+        return None;
     };
-    match command.try_get_matches_from(words) {
-        Ok(_) => false,
-        Err(fault) => fault.kind() == ErrorKind::ValueValidation && fault.print(rt).is_ok(),
+    let Err(fault) = command.try_get_matches_from(words) else {
+        return None;
+    };
+    match fault.kind() {
+        ErrorKind::ValueValidation => Some(fault),
+        _ => None,
     }
 }

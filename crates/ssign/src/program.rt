@@ -1,39 +1,37 @@
 //! The program: its command line and its exit statuses.
-ghost use Rattle.std.specs.Prelude.{◌≡◌, ◌≤◌, map, string_bytes};
-ghost use Rattle.ssign.specs.CommandLine.{AreMistaken, is_payload, status_of};
+ghost use Rattle.std.specs.Prelude.{◌≡◌, ◌≤◌, false, map, string_bytes};
+ghost use Rattle.clap.specs.Words.{HasKind, Kinds, subcommand_rows_of};
+ghost use Rattle.ss_frame.specs.Watched.{has_failed, sink_of};
+ghost use Rattle.ssign.specs.CommandLine.{AreMistaken, is_payload, order_in};
+ghost use Rattle.ssign.specs.FirstOctets.{inside, kept_octets};
+ghost use Rattle.ssign.specs.Outcome.{IsParsed, MeetsFault, RunsNamed, RunsOrder, RunsTo, RunsWords};
 
-use crate::command_line::{
-    Order, asked_code, code_missing, command, extract_conflict, form_in, order_of, salvage_conflict,
-};
-use crate::explanations::all_tables;
-use crate::extraction::ExtractionFault;
+use crate::command_line::{Order, command, form_in, order_of};
+use crate::explanations::{Tables, all_tables};
 use crate::first_octets::FirstOctets;
-use crate::negatives::reports_negative;
-use crate::progress::Progress;
-use crate::refusal::Refusal;
-use crate::refusing::{REFUSED, Remark, Screen, refuse, refuse_code, refuse_words, remark_on};
-use crate::streams::run_streams;
+use crate::given_files::{GivenFiles, SystemFiles};
+use crate::negatives::negative_fault;
+use crate::outcome::{
+    Outcome, out_of_memory, outcome_of, outcome_of_fault, silent, unreadable_words,
+};
+use crate::refusing::{Screen, show};
+use crate::streams::{run_reported, standard_output};
 use clap::error::ErrorKind;
 use clap::{ArgMatches, Error};
-use ss_frame::Form;
-use ss_report::{RunFault, Verdict};
-use std::alloc::AllocError;
+use ss_frame::Watched;
+use std::alloc::{AllocError, Global};
+use std::io::{Read, Write};
 use std::rt::{Clock, Env, Files};
 use std::{env, io};
-
-/// No finding, or a log that was planned or signed.
-const CLEAN: u8 = 0;
-/// Findings.
-const FINDINGS: u8 = 1;
 
 /// Runs the program, and gives its exit status.
 pub fn run<R: Input + Print + Eprint + Screen + Env + Files + Clock + AllocGlobal>(rt: &R) -> u8
     ensures { result ≤ 2 }
 {
     match words(rt) {
-        Ok(words) => run_words(rt, words.as_slice()),
-        Err(fault) if fault.kind() == io::ErrorKind::InvalidData => refuse_words(rt),
-        Err(_) => refuse(rt, &RunFault::Memory.code(), Remark::Nothing),
+        Ok(words) => show(rt, run_on_devices(rt, words.as_slice())),
+        Err(fault) if fault.kind() == io::ErrorKind::InvalidData => show(rt, unreadable_words()),
+        Err(_) => show(rt, out_of_memory()),
     }
 }
 
@@ -60,118 +58,136 @@ fn is_payload(option: &str, word: &str) -> bool
     option == "--payload" && word.as_bytes().starts_with(b"- ")
 }
 
-/// Runs the program with the words of its command line. It gives the exit status.
-fn run_words<R: Input + Print + Eprint + Screen + Files + Clock + AllocGlobal>(
+/// Runs the program with these words from standard input to standard output, by the files of the system.
+fn run_on_devices<'a, R: Input + Print + Eprint + Screen + Files + Clock + AllocGlobal>(
     rt: &R,
-    words: &[String],
-) -> u8
-    ensures most { result ≤ 2 }
-    ensures usage { AreMistaken (map string_bytes words.now) → result ≡ 2 }
+    words: &'a [String],
+) -> Outcome<'a>
+    ensures { result.status ≤ 2 }
 {
-    let Ok(command) = command(rt.alloc()) else {
-        return refuse(rt, &RunFault::Memory.code(), Remark::Nothing);
+    let Ok(mut writer) = standard_output(rt) else {
+        return out_of_memory();
+    };
+    let files = SystemFiles::new(rt);
+    let mut input = FirstOctets::new(rt.reader());
+    run_words(rt, &files, &mut input, &mut writer, all_tables(), words)
+}
+
+/// Runs the program with the words of its command line, over any files, input and writer.
+pub fn run_words<'a, R: Eprint + Screen + Clock + AllocGlobal, F: GivenFiles, I: Read, W: Write>(
+    rt: &R,
+    files: &F,
+    input: &mut FirstOctets<I>,
+    writer: &mut Watched<W>,
+    tables: Tables<'_>,
+    words: &'a [String],
+) -> Outcome<'a>
+    requires { has_failed writer.old ≡ false }
+    ensures runs { RunsWords (F.contents files.now) tables.entry (map string_bytes words.entry.now)
+        (I.remaining (inside input.old)) (kept_octets input.new)
+        (sink_of W.contents writer.old) (sink_of W.contents writer.new) result }
+    ensures most { result.status ≤ 2 }
+    ensures usage { AreMistaken (map string_bytes words.entry.now) → result.status ≡ 2 }
+{
+    let matches = match parsed(rt.alloc(), words) {
+        Ok(matches) => matches,
+        Err(outcome) => return outcome,
+    };
+    run_command(rt, files, input, writer, tables, &matches)
+}
+
+/// What `clap` makes of the words, or what is told of them.
+fn parsed<'a>(alloc: Global, words: &'a [String]) -> Result<ArgMatches<'a>, Outcome<'a>>
+    ensures { IsParsed (map string_bytes words.entry.now) result }
+{
+    let Ok(command) = command(alloc) else {
+        return Err(out_of_memory());
     };
     match command.try_get_matches_from(words) {
-        Ok(matches) => run_command(rt, &matches),
-        Err(fault) => {
-            if fault.kind() == ErrorKind::OutOfMemory {
-                return refuse(rt, &RunFault::Memory.code(), Remark::Nothing);
-            }
-            if fault.kind() == ErrorKind::UnknownArgument && reports_negative(rt, words) {
-                return REFUSED;
-            }
-            if fault.print(rt).is_err() {
-                return refuse(rt, &RunFault::Write.code(), Remark::Nothing);
-            }
-            if fault.use_stderr() { REFUSED } else { CLEAN }
-        }
+        Ok(matches) => Ok(matches),
+        Err(fault) => Err(outcome_of_words(alloc, words, fault)),
     }
 }
 
-/// Carries out the command that the command line names. It gives the exit status.
-fn run_command<R: Input + Print + Eprint + Screen + Files + Clock + AllocGlobal>(
+/// What comes of words of which `clap` says this: where it is a number below 0 in an option, its range is named.
+fn outcome_of_words<'a>(alloc: Global, words: &[String], fault: Error) -> Outcome<'a>
+    ensures { (kinds : Kinds) → HasKind kinds fault → MeetsFault kinds result }
+{
+    match fault.kind() {
+        ErrorKind::OutOfMemory => out_of_memory(),
+        ErrorKind::UnknownArgument => match negative_fault(alloc, words) {
+            Some(other) => outcome_of_fault(other),
+            None => outcome_of_fault(fault),
+        },
+        _ => outcome_of_fault(fault),
+    }
+}
+
+/// Carries out the command that the matches name.
+fn run_command<'a, R: Eprint + Screen + Clock + AllocGlobal, F: GivenFiles, I: Read, W: Write>(
     rt: &R,
-    matches: &ArgMatches<'_>,
-) -> u8
-    ensures { result ≤ 2 }
+    files: &F,
+    input: &mut FirstOctets<I>,
+    writer: &mut Watched<W>,
+    tables: Tables<'_>,
+    matches: &ArgMatches<'a>,
+) -> Outcome<'a>
+    requires { has_failed writer.old ≡ false }
+    ensures { RunsNamed (F.contents files.now) tables.entry (subcommand_rows_of matches.now)
+        (I.remaining (inside input.old)) (kept_octets input.new)
+        (sink_of W.contents writer.old) (sink_of W.contents writer.new) result }
 {
     let Some((name, options)) = matches.subcommand() else {
-        return REFUSED;
+        return silent();
     };
-    match order_of(name) {
-        Some(order) => run_on_devices(rt, order, options),
-        None => REFUSED,
-    }
+    run_named(rt, files, input, writer, tables, name, options)
 }
 
-/// Carries out what a command asks for, from standard input to standard output. It gives the exit status.
-fn run_on_devices<R: Input + Print + Eprint + Screen + Files + Clock + AllocGlobal>(
+/// Carries out the command of this name.
+fn run_named<'a, R: Eprint + Screen + Clock + AllocGlobal, F: GivenFiles, I: Read, W: Write>(
     rt: &R,
+    files: &F,
+    input: &mut FirstOctets<I>,
+    writer: &mut Watched<W>,
+    tables: Tables<'_>,
+    name: &str,
+    options: &ArgMatches<'a>,
+) -> Outcome<'a>
+    requires { has_failed writer.old ≡ false }
+    ensures { RunsOrder (F.contents files.now) tables.entry options.now (order_in name.now)
+        (I.remaining (inside input.old)) (kept_octets input.new)
+        (sink_of W.contents writer.old) (sink_of W.contents writer.new) result }
+{
+    let Some(order) = order_of(name) else {
+        return silent();
+    };
+    run_over(rt, files, input, writer, tables, order, options)
+}
+
+/// Carries out what a command asks for: from the input to the writer.
+pub fn run_over<'a, R: Eprint + Screen + Clock + AllocGlobal, F: GivenFiles, I: Read, W: Write>(
+    rt: &R,
+    files: &F,
+    input: &mut FirstOctets<I>,
+    writer: &mut Watched<W>,
+    tables: Tables<'_>,
     order: Order,
-    options: &ArgMatches<'_>,
-) -> u8
-    ensures { result ≤ 2 }
+    options: &ArgMatches<'a>,
+) -> Outcome<'a>
+    requires { has_failed writer.old ≡ false }
+    ensures { RunsTo (F.contents files.now) tables.entry options.now order
+        (I.remaining (inside input.old)) (kept_octets input.new)
+        (sink_of W.contents writer.old) (sink_of W.contents writer.new) result }
 {
-    let form = form_in(options);
-    let mut input = Progress::new(rt, FirstOctets::new(rt.reader()), form);
-    let ended = run_streams(rt, &mut input, order, options);
-    let input = input.finish();
-    end(rt, ended, options, form, input.kept())
-}
-
-/// The exit status of a command that ended so, over a log of this form that begins with these octets.
-fn end<R: Print + Eprint + Screen + AllocGlobal>(
-    rt: &R,
-    ended: Result<Verdict, Refusal>,
-    options: &ArgMatches<'_>,
-    form: Form,
-    octets: &[u8],
-) -> u8
-    ensures status { result ≡ status_of ended }
-    ensures most { result ≤ 2 }
-{
-    match ended {
-        Ok(Verdict::Clean) => CLEAN,
-        Ok(Verdict::Findings) => FINDINGS,
-        Err(refusal) => match refusal.code() {
-            Some(code) => refuse(rt, &code, remark_on(refusal, options, form, octets)),
-            None => report_mistake(rt, refusal, options),
-        },
-    }
-}
-
-/// Reports a refusal that has no code: a mistake of the command line, or an unknown code.
-fn report_mistake<R: Print + Eprint + Screen + AllocGlobal>(
-    rt: &R,
-    refusal: Refusal,
-    options: &ArgMatches<'_>,
-) -> u8
-    ensures { result ≡ 2 }
-{
-    match refusal {
-        Refusal::SalvagedLines(task) => report_conflict(rt, salvage_conflict(rt.alloc(), task)),
-        Refusal::Extraction(ExtractionFault::Both) => {
-            report_conflict(rt, extract_conflict(rt.alloc()))
-        }
-        Refusal::NoCode => report_conflict(rt, code_missing(rt.alloc())),
-        Refusal::NoEntry => refuse_code(rt, all_tables(), asked_code(options).unwrap_or("")),
-        _ => REFUSED,
-    }
-}
-
-/// Reports that two options exclude each other, or that a code is missing, like other mistakes of the command line, or that there is no memory for
-/// it.
-fn report_conflict<R: Print + Eprint + Screen + AllocGlobal>(
-    rt: &R,
-    conflict: Result<Error, AllocError>,
-) -> u8
-    ensures { result ≡ 2 }
-{
-    let Ok(fault) = conflict else {
-        return refuse(rt, &RunFault::Memory.code(), Remark::Nothing);
-    };
-    if fault.print(rt).is_err() {
-        return refuse(rt, &RunFault::Write.code(), Remark::Nothing);
-    }
-    REFUSED
+    let ended = run_reported(
+        rt.alloc(),
+        rt,
+        files,
+        &mut *input,
+        writer,
+        tables,
+        order,
+        options,
+    );
+    outcome_of(rt.alloc(), ended, options, form_in(options), input.kept())
 }

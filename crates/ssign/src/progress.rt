@@ -19,8 +19,8 @@ const PAUSE: u64 = 250;
 
 /// A reader that passes each call on. After one second it reports on a terminal how many messages it has given.
 #[derive(Drop)]
-pub struct Progress<'r, R, I> {
-    rt: &'r R,
+pub struct Progress<R, I> {
+    rt: R,
     inner: Watched<I>,
     meter: Option<Meter>,
 }
@@ -35,15 +35,15 @@ struct Meter {
     is_shown: bool,
 }
 
-impl<'r, R: Eprint + Screen + Clock, I> Progress<'r, R, I> {
+impl<R: Eprint + Screen + Clock + Drop, I> Progress<R, I> {
     /// A reader of a log in this form, of which nothing was read. It is silent where no person looks, or the clock
     /// can't be read.
-    pub fn new(rt: &'r R, inner: I, form: Form) -> Progress<'r, R, I>
+    pub fn new(rt: R, inner: I, form: Form) -> Progress<R, I>
         ensures inner { read_from result ≡ inner }
         ensures failed { has_failed_reading result ≡ false }
     {
         let meter = if rt.shows_refusals() {
-            Meter::start(rt, form)
+            Meter::start(&rt, form)
         } else {
             None
         };
@@ -56,11 +56,11 @@ impl<'r, R: Eprint + Screen + Clock, I> Progress<'r, R, I> {
 
     /// Clears the line, where there is one, and gives back the reader after it.
     pub fn finish(self) -> I
-        ensures { result ≡ read_from self.entry }
+        ensures { result ≡ read_from self }
     {
         let Progress { rt, inner, meter } = self;
         if let Some(mut meter) = meter {
-            meter.hide(rt);
+            meter.hide(&rt);
         }
         inner.into_inner()
     }
@@ -120,7 +120,7 @@ fn in_millis(duration: Duration) -> u64 {
         .saturating_add(duration.subsec_millis() as u64)
 }
 
-impl<R: Eprint + Clock, I: Read> Read for Progress<'_, R, I> {
+impl<R: Eprint + Clock, I: Read> Read for Progress<R, I> {
     ghost remaining = { λ p. I.remaining (read_from p) };
 
     fn read(&mut self, buf: &mut [u8]) -> io::Result<usize>
@@ -136,7 +136,7 @@ impl<R: Eprint + Clock, I: Read> Read for Progress<'_, R, I> {
             Err(_) => 0,
         };
         if let Some(meter) = &mut self.meter {
-            meter.take(self.rt, &buf[..count]);
+            meter.take(&self.rt, &buf[..count]);
         }
         result
     }

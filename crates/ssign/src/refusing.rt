@@ -1,5 +1,6 @@
 //! Saying why there is no output: in one line for programs, and in words where a person looks.
-ghost use Rattle.std.specs.Prelude.{◌≡◌};
+ghost use Rattle.std.specs.Prelude.{◌≡◌, Some};
+ghost use Rattle.ssign.specs.Outcome.{IsShown, refusal_line};
 ghost use Rattle.ssign.specs.Remark.{IsRemark, cause_remark, SaysOfSettings};
 
 use crate::asked::asked_word;
@@ -8,6 +9,7 @@ use crate::explain::explanation_of;
 use crate::explanations::{Tables, all_tables};
 use crate::likely_cause::{LikelyCause, run_cause, signing_cause};
 use crate::options::{ANSWERS, COUNTERS, FROM, PINNED, RESUME};
+use crate::outcome::{Notice, Outcome, REFUSED};
 use crate::refusal::Refusal;
 use crate::settings::SettingsFault;
 use crate::text_option::TextOption;
@@ -15,11 +17,9 @@ use arrayvec::ArrayString;
 use clap::ArgMatches;
 use ss_frame::Form;
 use ss_octets::Code;
+use ss_report::RunFault;
 use std::fmt;
 use std::fmt::{Display, Write};
-
-/// A refusal or a usage fault.
-pub const REFUSED: u8 = 2;
 
 /// The most octets of a refusal as it is printed: a code, a space and a number of up to 20 digits take fewer.
 const LONGEST_REFUSAL: usize = 32;
@@ -28,6 +28,12 @@ const LONGEST_REFUSAL: usize = 32;
 pub trait Screen {
     /// Whether a person looks: standard error is a terminal.
     fn shows_refusals(&self) -> bool;
+}
+
+impl<R: Screen> Screen for &R {
+    fn shows_refusals(&self) -> bool {
+        (**self).shows_refusals()
+    }
 }
 
 /// What a refusal is about, beside its explanation.
@@ -155,17 +161,52 @@ pub fn remark_on<'a>(
     }
 }
 
-/// Says on standard error why there is no output, by a code. Where a person looks, the code is explained, and the
-/// remark follows.
-pub fn refuse<R: Eprint + Screen>(rt: &R, code: &Code, remark: Remark<'_>) -> u8
-    ensures { result ≡ 2 }
+/// The line of a refusal, for programs.
+#[derive(Clone, Copy, Debug)]
+pub struct RefusalLine {
+    /// The code of the refusal.
+    pub code: Code,
+}
+
+impl Display for RefusalLine {
+    ghost output = { λ line. Some (refusal_line (line.code.name.now, line.code.place)) };
+
+    fn fmt<W: Write>(&self, f: &mut fmt::Formatter<W>) -> fmt::Result {
+        writeln!(f, "ssign: {}", self.code)
+    }
+}
+
+/// Prints what an outcome has beside the output, and gives the exit status: the outcome's, or that of a refusal if help
+/// can't be printed.
+pub fn show<R: Print + Eprint + Screen>(rt: &R, outcome: Outcome<'_>) -> u8
+    ensures { IsShown outcome.entry result }
 {
-    let _ = eprintln!(rt; "ssign: {code}");
+    let Outcome { status, notice } = outcome;
+    match notice {
+        Notice::Nothing => status,
+        Notice::Refused(code, remark) => refuse(rt, status, code, remark),
+        Notice::Unexplained(code) => refuse_code(rt, status, all_tables(), code),
+        Notice::Words => refuse_words(rt, status),
+        Notice::Parsed(fault) => {
+            if fault.print(rt).is_err() {
+                return refuse(rt, REFUSED, RunFault::Write.code(), Remark::Nothing);
+            }
+            status
+        }
+    }
+}
+
+/// Prints on standard error why there is no output, by a code. Where a person looks, the code is explained, and the
+/// remark follows. It gives the status.
+fn refuse<R: Eprint + Screen>(rt: &R, status: u8, code: Code, remark: Remark<'_>) -> u8
+    ensures { result ≡ status }
+{
+    let _ = eprint!(rt; "{}", RefusalLine { code });
     if rt.shows_refusals() {
-        explain_refusal(rt, code);
+        explain_refusal(rt, &code);
         let _ = eprint!(rt; "{remark}");
     }
-    REFUSED
+    status
 }
 
 /// Prints what `explain` prints for the refusal.
@@ -182,19 +223,19 @@ fn explain_refusal<R: Eprint>(rt: &R, code: &Code) {
     }
 }
 
-/// Says on standard error that a word of the command line can't be read.
-pub fn refuse_words<R: Eprint>(rt: &R) -> u8
-    ensures { result ≡ 2 }
+/// Prints on standard error that a word of the command line can't be read. It gives the status.
+fn refuse_words<R: Eprint>(rt: &R, status: u8) -> u8
+    ensures { result ≡ status }
 {
     let _ = eprintln!(rt;
         "error: a word of the command line isn't UTF-8\n\nFor more information, try '--help'."
     );
-    REFUSED
+    status
 }
 
-/// Prints on standard error that a code has no explanation, and which codes have one.
-pub fn refuse_code<R: Eprint>(rt: &R, tables: Tables<'_>, code: &str) -> u8
-    ensures { result ≡ 2 }
+/// Prints on standard error that a code has no explanation, and which codes have one. It gives the status.
+fn refuse_code<R: Eprint>(rt: &R, status: u8, tables: Tables<'_>, code: &str) -> u8
+    ensures { result ≡ status }
 {
     let _ = eprint!(rt; "error: no explanation of {code:?}\n\nThe codes:");
     let Tables {
@@ -207,5 +248,5 @@ pub fn refuse_code<R: Eprint>(rt: &R, tables: Tables<'_>, code: &str) -> u8
         let _ = eprint!(rt; " {}", entry.code);
     }
     let _ = eprintln!(rt; "\n\nFor more information, try '--help'.");
-    REFUSED
+    status
 }

@@ -1,50 +1,68 @@
-//! Runs from standard input to standard output.
+//! Runs over any input, through a buffer, and the buffer of standard output.
 ghost use Rattle.std.specs.Prelude.{◌≡◌, [], false, IfOk, MatchResult};
 ghost use Rattle.ss_frame.specs.Buffered.{behind, has_failed_behind, waiting};
-ghost use Rattle.ss_frame.specs.Watched.{has_failed, inner_of};
+ghost use Rattle.ss_frame.specs.Watched.{has_failed, inner_of, sink_of};
 ghost use Rattle.std.specs.Io.Buffered.{writer_buffer};
+ghost use Rattle.ssign.specs.Outcome.{EndsFrom};
 
-use crate::command_line::Order;
-use crate::explanations::all_tables;
-use crate::given_files::SystemFiles;
+use crate::command_line::{Order, form_in};
+use crate::explanations::Tables;
+use crate::given_files::GivenFiles;
 use crate::orders::run_order;
+use crate::progress::Progress;
 use crate::refusal::Refusal;
+use crate::refusing::Screen;
 use clap::ArgMatches;
 use ss_frame::{Buffered, Watched};
 use ss_report::{RunFault, Verdict};
 use std::alloc::Global;
 use std::io;
-use std::io::{BufWriter, Printer, Read};
-use std::rt::Files;
+use std::io::{BufWriter, Printer, Read, Write};
+use std::rt::Clock;
 
 /// How much is written at once, in octets.
 const BUFFER_SIZE: usize = 65_536;
 
-/// Carries out what a command asks for, from the input to standard output, by the files of the system.
-pub fn run_streams<R: Print + Files + AllocGlobal, I: Read + Drop>(
-    rt: &R,
+/// Carries out what a command asks for, and reports on a terminal how many messages it has read.
+pub fn run_reported<R: Eprint + Screen + Clock + Drop, F: GivenFiles, I: Read + Drop, W: Write>(
+    alloc: Global,
+    rt: R,
+    files: &F,
     input: I,
+    writer: &mut Watched<W>,
+    tables: Tables<'_>,
     order: Order,
     options: &ArgMatches<'_>,
-) -> Result<Verdict, Refusal> {
-    let mut reader = match buffered(rt.alloc(), input) {
+) -> Result<Verdict, Refusal>
+    requires { has_failed writer.old ≡ false }
+    ensures { EndsFrom (F.contents files.now) tables.entry options.now order (I.remaining input)
+        (sink_of W.contents writer.old) (sink_of W.contents writer.new) result }
+{
+    let mut reader = Progress::new(rt, input, form_in(options));
+    let ended = run_buffered(alloc, files, &mut reader, writer, tables, order, options);
+    reader.finish();
+    ended
+}
+
+/// Carries out what a command asks for, over the octets of the input, through a buffer.
+fn run_buffered<F: GivenFiles, I: Read + Drop, W: Write>(
+    alloc: Global,
+    files: &F,
+    input: I,
+    writer: &mut Watched<W>,
+    tables: Tables<'_>,
+    order: Order,
+    options: &ArgMatches<'_>,
+) -> Result<Verdict, Refusal>
+    requires { has_failed writer.old ≡ false }
+    ensures { EndsFrom (F.contents files.now) tables.entry options.now order (I.remaining input)
+        (sink_of W.contents writer.old) (sink_of W.contents writer.new) result }
+{
+    let mut reader = match buffered(alloc, input) {
         Ok(reader) => reader,
         Err(fault) => return Err(Refusal::Run(fault)),
     };
-    let mut writer = match standard_output(rt) {
-        Ok(writer) => writer,
-        Err(fault) => return Err(Refusal::Run(fault)),
-    };
-    let files = SystemFiles::new(rt);
-    run_order(
-        rt.alloc(),
-        &files,
-        &mut reader,
-        &mut writer,
-        all_tables(),
-        order,
-        options,
-    )
+    run_order(alloc, files, &mut reader, writer, tables, order, options)
 }
 
 /// The input, through a buffer.
@@ -63,7 +81,7 @@ fn buffered<I: Drop>(alloc: Global, input: I) -> Result<Watched<Buffered<I>>, Ru
 }
 
 /// Standard output, through a buffer.
-fn standard_output<R: Print + AllocGlobal>(
+pub fn standard_output<R: Print + AllocGlobal>(
     rt: &R,
 ) -> Result<Watched<BufWriter<Printer<'_, R>>>, RunFault>
     // No write has failed.

@@ -1,41 +1,37 @@
-use Rattle.std.proofs.Common.{◌≡◌, ◌∙◌, true, map, ap, refl, sym, subst, inl, inr}
-use Rattle.clap.specs.Words.{App, IsAmong, app_of, fault_of, is_simple_and_free, kind_of}
-use Rattle.clap.specs.declared.error.kind.ErrorKind.{ErrorKind}
-use Rattle.clap.proofs.OnLiterals.{clap_on_literals}
-use Rattle.ssign.specs.CommandLine.{ssign_app}
-use Rattle.ssign.specs.Options.{Kept}
+use Rattle.std.proofs.Common.{map, refl, inl, inr}
+use Rattle.std.specs.Prelude.{string_bytes}
+use Rattle.clap.specs.Words.{subcommand_rows_of}
+use Rattle.ss_frame.specs.Watched.{sink_of}
+use Rattle.ssign.specs.FirstOctets.{inside, kept_octets}
+use Rattle.ssign.proofs.Statuses.{words_most, words_usage}
 use Rattle.ssign.proofs.program.run_words.Goals as goal
 
--- clap reports each fault of the program's commands
-is_told : (versions : Kept) → is_simple_and_free (ssign_app versions) ≡ true
-unfolding clap_on_literals
-is_told versions = refl
+pub returns-in-Err-clause-runs : goal.returns-in-Err-clause-runs
+returns-in-Err-clause-runs g c = inr (c.in-Err.ensures, refl)
 
-pub returns-in-Ok-try_get_matches_from-clause-usage : goal.returns-in-Ok-try_get_matches_from-clause-usage
-returns-in-Ok-try_get_matches_from-clause-usage g c = λ mistaken.
-    let versions = c.in-Ok.ensures.0 in
-    let refused = mistaken versions c.in-Ok.ensures.1 in
-    let is : app_of c.in-Ok.command ≡ ssign_app versions = c.in-Ok.ensures.2 in
-    let no_fault = c.in-Ok-try_get_matches_from.ensures.kinds (ap is_simple_and_free is ∙ is_told versions) in
-    absurd (refused.0 (ap (λ (a : App). fault_of a (map (λ word. word.bytes.items) c.args.words.now)) (sym is) ∙ no_fault))
+pub returns-in-Err-clause-most : goal.returns-in-Err-clause-most
+returns-in-Err-clause-most g c =
+    let sink = sink_of g.W.Write.contents c.args.writer.now in
+    words_most (g.F.GivenFiles.contents c.args.files.now) c.args.tables (g.I.Read.remaining (inside c.args.input.now))
+    (kept_octets c.args.input.now) sink sink c.in-Err.outcome (map string_bytes c.args.words.now) (returns-in-Err-clause-runs g c)
+
+pub returns-in-Err-clause-usage : goal.returns-in-Err-clause-usage
+returns-in-Err-clause-usage g c = λ mistakes.
+    let sink = sink_of g.W.Write.contents c.args.writer.now in
+    words_usage (g.F.GivenFiles.contents c.args.files.now) c.args.tables (g.I.Read.remaining (inside c.args.input.now))
+    (kept_octets c.args.input.now) sink sink c.in-Err.outcome (map string_bytes c.args.words.now) mistakes (returns-in-Err-clause-runs g c)
+
+pub returns-clause-runs : goal.returns-clause-runs
+returns-clause-runs g c = inl (subcommand_rows_of c.in-Ok.matches, c.in-Ok.ensures, c.run_command.ensures)
+
+pub returns-clause-most : goal.returns-clause-most
+returns-clause-most g c =
+    words_most (g.F.GivenFiles.contents c.args.files.now) c.args.tables (g.I.Read.remaining (inside c.args.input.now))
+    (kept_octets c.run_command.new.input) (sink_of g.W.Write.contents c.args.writer.now) (sink_of g.W.Write.contents c.run_command.new.writer)
+    c.run_command.result (map string_bytes c.args.words.now) (returns-clause-runs g c)
 
 pub returns-clause-usage : goal.returns-clause-usage
-returns-clause-usage g c = λ mistaken.
-    let versions = c.in-Ok.ensures.0 in
-    let refused = mistaken versions c.in-Ok.ensures.1 in
-    let is : app_of c.in-Ok.command ≡ ssign_app versions = c.in-Ok.ensures.2 in
-    let fails = c.in-Err.ensures.kinds (ap is_simple_and_free is ∙ is_told versions) in
-    let words = map (λ word. word.bytes.items) c.args.words.now in
-    elim fails [
-      | inl memory ↦
-          let is_memory : c.eq.result ≡ true = rw (c.kind.ensures, memory) at c.eq.ensures in
-          absurd cc
-      | inr among ↦
-          let among_those : IsAmong (kind_of c.in-Err.fault) (fault_of (ssign_app versions) words) =
-          subst (λ (a : App). IsAmong (kind_of c.in-Err.fault) (fault_of a words)) is among in
-          let at_stderr : c.use_stderr.result ≡ true = c.use_stderr.ensures.1 (
-            λ help. refused.1 (subst (λ (k : ErrorKind). IsAmong k (fault_of (ssign_app versions) words)) help among_those),
-            λ version. refused.2 (subst (λ (k : ErrorKind). IsAmong k (fault_of (ssign_app versions) words)) version among_those),
-          ) in
-          absurd cc
-    ]
+returns-clause-usage g c = λ mistakes.
+    words_usage (g.F.GivenFiles.contents c.args.files.now) c.args.tables (g.I.Read.remaining (inside c.args.input.now))
+    (kept_octets c.run_command.new.input) (sink_of g.W.Write.contents c.args.writer.now) (sink_of g.W.Write.contents c.run_command.new.writer)
+    c.run_command.result (map string_bytes c.args.words.now) mistakes (returns-clause-runs g c)
