@@ -166,6 +166,11 @@ run_unkept <"$log" >/dev/full
 unwritten 'a full device, a short report'
 run_unkept < <(printf '1 a%.0s' {1..20000}) >/dev/full
 unwritten 'a full device, a report of many lines'
+for word in --help --version; do
+    timeout "$patience" "$program" "$word" >/dev/full 2>"$scratch/err"
+    status=$?
+    unwritten "a full device, $word"
+done
 run_unkept <"$log" >&-
 unwritten 'a closed standard output'
 exec 3> >(:)
