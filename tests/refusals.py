@@ -40,6 +40,7 @@ HERE = os.path.dirname(os.path.abspath(__file__))
 # the codes of each command, in their order: what belongs to counters and answers comes before the log
 CODES = {
     "review": "(W2 )+(C4 )*(A4 )*((F4|V1|W2) )*",
+    "asked": "(W2 )+(C4 )*(A4 )*((F4|V1) )*(W2 )*(V1 )*(A4 )*((V1|W2) )*",
     "extract": "(W2 )+(A4 )*((F4|V1|W2) )*",
     "carry": "(W2 )+(A4 )*((F4|V1|W2) )*",
     "counters": "(W2 )+(A4 )*((F4|V1|W2) )*",
@@ -50,9 +51,9 @@ CODES = {
     "explain": "(W2 )*",
 }
 # those that review each message once it is read, and then use its room for the next one
-REUSE = ("review", "counters", "questions")
+REUSE = ("review", "asked", "counters", "questions")
 # those that do without a list that they couldn't make as long as it will be
-DO_WITHOUT = ("review", "extract", "carry", "counters")
+DO_WITHOUT = ("review", "asked", "extract", "carry", "counters")
 # fewer allocations than reading any command line takes: these are tried once for each command line
 WORDS_ALONE = 80
 BUFFER = 65536
@@ -246,6 +247,20 @@ def known_reviews():
                pinned=b"want\n")
     yield Case("known payloads: a folder", ["questions", "--pinned", HERE], octets, refused("A2"))
     yield Case("known payloads: an extract of a place", ["extract", "--place", "0"], octets, Said(0, frame(EXAMPLE[0]), b""), pinned=text)
+
+
+def asked_first():
+    """Reviews that write their questions, and read the answers after the log."""
+    answers, octets = answers_of(EXAMPLE, ALL), b"".join(map(frame, EXAMPLE))
+    ask = ["review", "--ask", os.devnull]
+    case = reviewed("a clean log, whose questions are asked,", "review", octets, answers)
+    yield case._replace(words=ask)
+    yield case._replace(words=ask, name=case.name + " by known payloads", pinned=answers_text(*answers))
+    yield Case("questions as JSON, and what is missing", [*ask, "--json", "--whole"], octets, 0, answers_text(*answers))
+    yield Case("a night whose questions are asked", ask, octets, 1, answers_text(*answers), counters=ended(KEPT), first=ended(FIRST))
+    yield Case("questions that can't be written", ["review", "--ask", HERE], octets, refused("Q1"), b"want\n")
+    yield Case("a bad line of the answers, after the questions", ask, octets, refused("A1 1"), b"want\n")
+    yield Case("no log for questions", ask, b"x", refused("F1 0"), b"want\n")
 
 
 def tallies():
@@ -577,6 +592,7 @@ class Runner:
         if not self.library:
             return faults, [], 0
         kind = case.words[0] if case.words and case.words[0] in CODES else "explain"
+        kind = "asked" if "--ask" in case.words else kind
         codes, without = [], 0
         for number in numbers(first, count, case.some):
             said, asked = self.run(words, log, number)
@@ -623,8 +639,8 @@ def main():
     parser.add_argument("library", nargs="?", default="")
     parser.add_argument("--show", action="store_true")
     given = parser.parse_args()
-    cases = [case for make in (reviews, kept_reviews, night_reviews, known_reviews, tallies, salvaged, extracts, inspections, answers, signings,
-                               resumed_signings, wrapped_signings, refused_signings, others, long_outputs)
+    cases = [case for make in (reviews, kept_reviews, night_reviews, known_reviews, asked_first, tallies, salvaged, extracts, inspections,
+                               answers, signings, resumed_signings, wrapped_signings, refused_signings, others, long_outputs)
              for case in make()]
     first = cases[0].wanted.out.decode().splitlines()
     for word in WORDS:

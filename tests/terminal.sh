@@ -150,6 +150,13 @@ refused 'carry: a line that is no known payload' 'A1 1' "The file of known paylo
     carry --pinned "$scratch/answers" --answers /
 refused 'a folder of known payloads' 'A2' 'The file of known payloads is --pinned "/".' questions --pinned /
 
+# ---- the file of the questions, and the answers after them
+refused 'no file for the questions' 'Q1' 'The file of the questions is --ask "/".' review --ask / --answers /
+refused 'a folder of answers after the questions' 'A2' 'The answers file is --answers "/".' \
+    review --ask "$scratch/asked" --answers /
+refused 'a line that is no answer, after the questions' 'A1 1' "The answers file is --answers \"$scratch/answers\"." \
+    review --ask "$scratch/asked" --answers "$scratch/answers"
+
 # ---- the counters files of a review
 printf 'count\n' >"$scratch/counters"
 refused 'review: a bad line of the counters' 'C1 1' "The counters file is --counters \"$scratch/counters\"." review --counters "$scratch/counters"
