@@ -9,10 +9,10 @@ use Rattle.ss_frame.specs.Watched.{Source, has_failed, inner_of, sink_of, source
 use Rattle.ss_frame.specs.declared.buffered.Buffered.{Buffered}
 use Rattle.ss_frame.specs.declared.watched.Watched.{Watched}
 use Rattle.ss_report.specs.declared.verdict.verdict.Verdict.{Verdict}
-use Rattle.ssign.specs.GivenFiles.{Contents}
-use Rattle.ssign.specs.Orders.{Ends}
+use Rattle.ssign.specs.GivenFiles.{Files}
+use Rattle.ssign.specs.Orders.{Ends, questions_path}
 use Rattle.ssign.specs.Outcome.{EndsOver, fresh}
-use Rattle.ssign.specs.Refusal.{is_before_run, is_failed_write}
+use Rattle.ssign.specs.Refusal.{is_before_questions, is_before_run, is_failed_write}
 use Rattle.ssign.specs.declared.command_line.Order.{Order}
 use Rattle.ssign.specs.declared.explanations.Tables.{Tables}
 use Rattle.ssign.specs.declared.refusal.Refusal.{Refusal}
@@ -32,16 +32,20 @@ is_fresh remaining reader input same none sound =
     ap₂ (λ (known : Option (List ℕ)) (failed : Bool). record { left = known; failed = failed }) left sound
 
 -- what an order does with a reader that has these octets
-pub ends_over : {T W : Type 0} (remaining : T → Option (List ℕ)) (contents : W → Option (List ℕ)) (files : Contents) (tables : Tables)
+pub ends_over : {T W : Type 0} (remaining : T → Option (List ℕ)) (contents : W → Option (List ℕ)) (given made : Files) (tables : Tables)
     (m : ArgMatches) (order : Order) (old new : Watched T) (was is : Watched W) (known : Option (List ℕ)) (ended : Result Verdict Refusal)
     → source_of remaining old ≡ fresh known
-    → Ends files tables m order (source_of remaining old) (source_of remaining new) (sink_of contents was) (sink_of contents is) ended
+    → Ends given made tables m order (source_of remaining old) (source_of remaining new) (sink_of contents was) (sink_of contents is) ended
     → IfErr ended (λ refusal. is_before_run refusal ≡ true → new ≡ old)
     → IfErr ended (λ refusal. is_failed_write refusal ≡ false → is ≡ was)
-    → EndsOver files tables m order known (sink_of contents was) (sink_of contents is) ended
-ends_over remaining contents files tables m order old new was is known ended begun ends unread untouched = record {
+    → (questions_path order m ≡ None → made.written ≡ given.written)
+    → IfErr ended (λ refusal. is_before_questions refusal ≡ true → made.written ≡ given.written)
+    → EndsOver given made tables m order known (sink_of contents was) (sink_of contents is) ended
+ends_over remaining contents given made tables m order old new was is known ended begun ends unread untouched unasked unopened = record {
   after = source_of remaining new;
-  ends = subst (λ (before : Source). Ends files tables m order before (source_of remaining new) (sink_of contents was) (sink_of contents is) ended) begun ends;
+  ends = subst (λ (before : Source). Ends given made tables m order before (source_of remaining new) (sink_of contents was) (sink_of contents is) ended) begun ends;
   unread = IfErr-weaker ended _ _ (λ refusal kept before. ap (source_of remaining) (kept before) ∙ begun) unread;
   untouched = IfErr-weaker ended _ _ (λ refusal kept written. ap (sink_of contents) (kept written)) untouched;
+  unasked = unasked;
+  unopened = unopened;
 }

@@ -14,3 +14,5 @@ mod ReadBounds
 mod Openings
 mod SpelledNumbers
 mod ReadBack
+mod AskedFiles
+mod AskedQuestions

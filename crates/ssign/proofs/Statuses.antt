@@ -8,7 +8,7 @@ use Rattle.ss_frame.specs.Watched.{Sink}
 use Rattle.ss_report.specs.declared.verdict.verdict.Verdict.{Verdict}
 use Rattle.ss_report.specs.declared.verdict.verdict.Verdict.TheVariants.{Clean, Findings}
 use Rattle.ssign.specs.CommandLine.{AreMistaken, IsUsageFault, order_in, status_of}
-use Rattle.ssign.specs.GivenFiles.{Contents}
+use Rattle.ssign.specs.GivenFiles.{Files}
 use Rattle.ssign.specs.Outcome.{IsKindOf, IsMistaken, IsRefused, IsTaken, IsToldBy, RunsNamed, RunsOrder, RunsWords, silent, status_of_kind}
 use Rattle.ssign.specs.declared.command_line.Order.{Order}
 use Rattle.ssign.specs.declared.explanations.Tables.{Tables}
@@ -60,17 +60,17 @@ ended_most (Ok Clean) = omega arith
 ended_most (Ok Findings) = omega arith
 ended_most (Err refusal) = omega arith
 
-module _ (files : Contents) (tables : Tables) (known : Option (List ℕ)) (kept : List ℕ) (was is : Sink) (o : Outcome) where
+module _ (old new : Files) (tables : Tables) (known : Option (List ℕ)) (kept : List ℕ) (was is : Sink) (o : Outcome) where
   silent_most : o ≡ silent → o.status ≤ 2
   silent_most e = let two : o.status ≡ 2 = ap (λ (x : Outcome). x.status) e in omega arith
 
-  order_most : (m : ArgMatches) (order : Option Order) → RunsOrder files tables m order known kept was is o → o.status ≤ 2
+  order_most : (m : ArgMatches) (order : Option Order) → RunsOrder old new tables m order known kept was is o → o.status ≤ 2
   order_most m (Some order) runs =
       let status : o.status ≡ status_of runs.ended = runs.outcome.status in
       omega (arith, ended_most runs.ended)
   order_most m None runs = silent_most runs.0
 
-  named_most : (named : Option (Text × List Row)) → RunsNamed files tables named known kept was is o → o.status ≤ 2
+  named_most : (named : Option (Text × List Row)) → RunsNamed old new tables named known kept was is o → o.status ≤ 2
   named_most (Some (name, rows)) runs = order_most runs.options (order_in name) runs.runs
   named_most None runs = silent_most runs.0
 
@@ -80,9 +80,9 @@ module _ (files : Contents) (tables : Tables) (known : Option (List ℕ)) (kept 
       let told : o.status ≡ status_of_kind (kind_of mistaken.told.fault) = ap (λ (x : Outcome). x.status) mistaken.told.outcome in
       omega (arith, kind_most (kind_of mistaken.told.fault))
 
-  pub words_most : (words : List (List ℕ)) → RunsWords files tables words known kept was is o → o.status ≤ 2
+  pub words_most : (words : List (List ℕ)) → RunsWords old new tables words known kept was is o → o.status ≤ 2
   words_most words (inl (named, taken, runs)) = named_most named runs
-  words_most words (inr (refused, untouched)) = refused_most words refused
+  words_most words (inr (refused, untouched, unopened)) = refused_most words refused
 
   refused_usage : (words : List (List ℕ)) → AreMistaken words → IsRefused words o → o.status ≡ 2
   refused_usage words mistakes (inl memory) = memory.status
@@ -90,7 +90,7 @@ module _ (files : Contents) (tables : Tables) (known : Option (List ℕ)) (kept 
       ap (λ (x : Outcome). x.status) mistaken.told.outcome
       ∙ mistaken_kind _ (kind_of mistaken.told.fault) (mistakes mistaken.versions mistaken.are_versions) mistaken.told.kind
 
-  pub words_usage : (words : List (List ℕ)) → AreMistaken words → RunsWords files tables words known kept was is o → o.status ≡ 2
+  pub words_usage : (words : List (List ℕ)) → AreMistaken words → RunsWords old new tables words known kept was is o → o.status ≡ 2
   words_usage words mistakes (inl (named, taken, runs)) =
       absurd ((mistakes taken.versions taken.are_versions).0 taken.no_fault)
-  words_usage words mistakes (inr (refused, untouched)) = refused_usage words mistakes refused
+  words_usage words mistakes (inr (refused, untouched, unopened)) = refused_usage words mistakes refused

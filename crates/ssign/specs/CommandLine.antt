@@ -118,9 +118,9 @@ name_of Explain = codes "explain"
 -- its own options, in their order
 abbrev pub own_rules : Order → List Rule
 own_rules (Log Review) =
-    text_rule (codes "answers") ∷ flag_rule (codes "findings") ∷ flag_rule (codes "json") ∷ flag_rule (codes "whole")
-    ∷ flag_rule (codes "tally") ∷ text_rule (codes "counters") ∷ text_rule (codes "from") ∷ text_rule (codes "pinned")
-    ∷ flag_rule (codes "salvage") ∷ []
+    text_rule (codes "answers") ∷ text_rule (codes "ask") ∷ flag_rule (codes "findings") ∷ flag_rule (codes "json")
+    ∷ flag_rule (codes "whole") ∷ flag_rule (codes "tally") ∷ text_rule (codes "counters") ∷ text_rule (codes "from")
+    ∷ text_rule (codes "pinned") ∷ flag_rule (codes "salvage") ∷ []
 own_rules (Log Questions) =
     flag_rule (codes "json") ∷ flag_rule (codes "once") ∷ text_rule (codes "pinned") ∷ flag_rule (codes "salvage") ∷ []
 own_rules (Log Extract) =

@@ -1,5 +1,6 @@
--- What the files give that options name.
-use Rattle.std.specs.Prelude.{ℕ, List, Option, Some, None, Result, Ok, Err, MatchResult}
+-- What the files give that options name, and what is written to them.
+use Rattle.std.specs.Prelude.{◌≡◌, ℕ, false, List, [], ◌∷◌, ◌++◌, Option, Some, None, Result, Ok, Err, MatchResult}
+use Rattle.ss_frame.specs.Watched.{Sink}
 use Rattle.ss_review.specs.declared.counted.counter.Counter.{Counter}
 use Rattle.ss_answers.specs.Answers.{Answer}
 use Rattle.ss_answers.specs.AnswerInput.{AreOfFile, ArePayloadsOfFile, IsFileFault}
@@ -29,3 +30,35 @@ of_system = record {
   payloads = λ path result. MatchResult result ArePayloadsOfFile IsFileFault;
   answers = λ path result. MatchResult result AreOfFile IsFileFault;
 }
+
+-- ---- what is written
+
+-- a file that was made, written and closed: its path, and the octets that its writer held as it was closed, where they are
+-- known
+pub record WrittenFile : Type 0 where
+  pub path : List ℕ
+  pub octets : Option (List ℕ)
+
+-- the files as they are at some time: what they may give, and those that were written, in their order, where this is known
+pub record Files : Type 1 where
+  pub contents : Contents
+  pub written : Option (List WrittenFile)
+
+abbrev pub files_of : {F : Type 0} → (F → Contents) → (F → Option (List WrittenFile)) → F → Files
+files_of contents written files = record { contents = contents files; written = written files }
+
+-- this file was written after the others
+abbrev pub Adds : Option (List WrittenFile) → Option (List WrittenFile) → WrittenFile → Type 0
+Adds None new file = Unit {0}
+Adds (Some files) None file = ⊥
+Adds (Some files) (Some new) file = new ≡ files ++ file ∷ []
+
+-- a file that was just made holds nothing, where it is known what it holds
+abbrev pub HoldsNothing : Option (List ℕ) → Type 0
+HoldsNothing None = Unit {0}
+HoldsNothing (Some octets) = octets ≡ []
+
+-- its writer: no call of it has failed
+pub record IsMade (opened : Sink) : Type 0 where
+  pub nothing : HoldsNothing opened.written
+  pub unfailed : opened.failed ≡ false

@@ -1,6 +1,7 @@
 pub mod Options
 pub mod GivenFiles
 pub mod LogOrder
+pub mod AskOrder
 pub mod SigningOrder
 pub mod Orders
 pub mod Refusal

@@ -1,22 +1,22 @@
 -- What a command over a log does, by its options and by the files that they name.
-use Rattle.std.specs.Prelude.{◌≡◌, ℕ, true, false, ◌||◌, List, Option, Some, None, Result, Ok, Err, codes}
+use Rattle.std.specs.Prelude.{◌≡◌, ℕ, true, false, ◌||◌, List, Option, Some, None, IfSome, Result, Ok, Err, codes}
 use Rattle.std.specs.Option.{is_some}
 use Rattle.clap.specs.Words.{first_value, found_of}
 use Rattle.clap.specs.declared.parser.matches.ArgMatches.{ArgMatches}
 use Rattle.ss_frame.specs.Limits.{Allowance, InRange}
 use Rattle.ss_frame.specs.Watched.{Source, Sink}
-use Rattle.ss_review.specs.declared.counted.counter.Counter.{Counter}
 use Rattle.ss_review.specs.sessions.Verified as verified
 use Rattle.ss_report.specs.declared.log.read_options.ReadOptions.{ReadOptions}
 use Rattle.ss_report.specs.declared.runs.extraction.Extraction.{Extraction}
 use Rattle.ss_report.specs.declared.verdict.verdict.Verdict.{Verdict}
 use Rattle.ss_report.specs.runs.Run.{Job, Runs, Stops}
-use Rattle.ss_answers.specs.Answers.{Answer, trusted, valid}
+use Rattle.ss_answers.specs.Answers.{Answer, Rise, trusted, valid}
 use Rattle.ssign.specs.CommandLine.{HasNumber, form_of, is_given, reporting}
 use Rattle.ssign.specs.Extraction.{GivesExtraction, texts_given}
 use Rattle.ssign.specs.GivenFiles.{Contents, Gives}
 use Rattle.ssign.specs.Task.{job_of}
 use Rattle.ssign.specs.declared.extraction.ExtractionFault.{ExtractionFault}
+use Rattle.ssign.specs.declared.orders.prepare.Asked.{Asked}
 use Rattle.ssign.specs.declared.refusal.Refusal.{Refusal}
 use Rattle.ssign.specs.declared.refusal.Refusal.TheVariants as refusals
 use Rattle.ssign.specs.declared.task.Reporting.{Reporting}
@@ -58,17 +58,8 @@ IsReporting m r = r ≡ reporting (is_given m (codes "findings")) (is_given m (c
 
 -- ---- what is asked
 
--- what is asked of a log beside the task
-pub record Asked : Type 0 where
-  pub reading : ReadOptions
-  pub extraction : Extraction
-  pub reporting : Reporting
-  pub first : Option (List Counter)
-  pub counters : Option (List Counter)
-  pub known : Option (List (List ℕ))
-  pub answers : Option (List Answer)
-
--- the options say it, and the files that they name give it
+-- The options say what is asked of a log beside the task, and the files that they name give it. The payloads that are
+-- known beforehand rise by their octets.
 pub record IsAsked (files : Contents) (m : ArgMatches) (a : Asked) : Type 0 where
   pub reading : IsReading m a.reading
   pub extraction : IsExtraction m (Ok a.extraction)
@@ -76,15 +67,19 @@ pub record IsAsked (files : Contents) (m : ArgMatches) (a : Asked) : Type 0 wher
   pub first : Gives files.counters (path_in m (codes "from")) (Ok a.first)
   pub counters : Gives files.counters (path_in m (codes "counters")) (Ok a.counters)
   pub known : Gives files.payloads (path_in m (codes "pinned")) (Ok a.known)
-  pub answers : Gives files.answers (path_in m (codes "answers")) (Ok a.answers)
+  pub known_rise : IfSome a.known Rise
+
+-- the answers are those of the file of `--answers`, if it is given
+abbrev pub AreAnswers : Contents → ArgMatches → Option (List Answer) → Type 0
+AreAnswers files m answers = Gives files.answers (path_in m (codes "answers")) (Ok answers)
 
 -- who answers for signatures: an answers file, or nobody
 abbrev pub said_by : Option (List Answer) → verified.Answers
 said_by (Some given) = record { trusted = trusted given; valid = valid given }
 said_by None = record { trusted = λ payload. false; valid = λ payload octets signature. false }
 
-abbrev pub asked_job : Task → Asked → Job
-asked_job task a = job_of (said_by a.answers) a.reporting a.known a.first a.counters a.extraction task
+abbrev pub asked_job : Task → Asked → Option (List Answer) → Job
+asked_job task a answers = job_of (said_by answers) a.reporting a.known a.first a.counters a.extraction task
 
 -- ---- how it ends
 
@@ -120,14 +115,22 @@ IsFirstRefusal files m (refusals.Answers fault) =
     × Gives files.answers (path_in m (codes "answers")) (Err fault)
 IsFirstRefusal files m _ = ⊥
 
--- A run over a log, with its verdict or the fault that stopped it, or the first refusal before it. `--salvage` beside
--- `--lines` is refused right after the limits.
-abbrev pub EndsLog : Contents → ArgMatches → Task → (before after : Source) → (was is : Sink)
+-- why nothing is asked of a log: the same, or `--salvage` beside `--lines`, which is refused right after the limits
+abbrev pub IsUnasked : Contents → ArgMatches → Task → Refusal → Type 0
+IsUnasked files m task (refusals.SalvagedLines asked) = (asked ≡ task) × HasLimits m × AreSalvagedLines m
+IsUnasked files m task (refusals.Answers fault) = ⊥
+IsUnasked files m task refusal = IsFirstRefusal files m refusal
+
+-- A run over a log whose answers are read before it, with its verdict or the fault that stopped it, or the first refusal
+-- before it. `--salvage` beside `--lines` is refused right after the limits.
+abbrev pub EndsAtOnce : Contents → ArgMatches → Task → (before after : Source) → (was is : Sink)
     → Result Verdict Refusal → Type 0
-EndsLog files m task before after was is (Ok verdict) =
-    (a : Asked) × IsAsked files m a × Runs (asked_job task a) a.reading before after was is verdict
-EndsLog files m task before after was is (Err (refusals.Run fault)) =
-    (a : Asked) × IsAsked files m a × Stops (asked_job task a) a.reading before after was is fault
-EndsLog files m task before after was is (Err (refusals.SalvagedLines asked)) =
+EndsAtOnce files m task before after was is (Ok verdict) =
+    (a : Asked) × (answers : Option (List Answer)) × IsAsked files m a × AreAnswers files m answers
+    × Runs (asked_job task a answers) a.reading before after was is verdict
+EndsAtOnce files m task before after was is (Err (refusals.Run fault)) =
+    (a : Asked) × (answers : Option (List Answer)) × IsAsked files m a × AreAnswers files m answers
+    × Stops (asked_job task a answers) a.reading before after was is fault
+EndsAtOnce files m task before after was is (Err (refusals.SalvagedLines asked)) =
     (asked ≡ task) × HasLimits m × AreSalvagedLines m
-EndsLog files m task before after was is (Err refusal) = IsFirstRefusal files m refusal
+EndsAtOnce files m task before after was is (Err refusal) = IsFirstRefusal files m refusal

@@ -10,8 +10,8 @@ use Rattle.ss_report.specs.declared.verdict.verdict.Verdict.{Verdict}
 use Rattle.ss_report.specs.declared.verdict.verdict.Verdict.TheVariants.{Clean, Findings}
 use Rattle.ssign.specs.CommandLine.{is_given}
 use Rattle.ssign.specs.Explanation.{asked_of, explained}
-use Rattle.ssign.specs.GivenFiles.{Contents}
-use Rattle.ssign.specs.LogOrder.{EndsLog}
+use Rattle.ssign.specs.AskOrder.{EndsLog, ask_path}
+use Rattle.ssign.specs.GivenFiles.{Files}
 use Rattle.ssign.specs.SigningOrder.{EndsSigning}
 use Rattle.ssign.specs.declared.command_line.Order.{Order}
 use Rattle.ssign.specs.declared.command_line.Order.TheVariants.{Log, Sent, Explain}
@@ -44,13 +44,19 @@ EndsTold t json code was is (Err refusal) =
 
 -- so ends a command by its options
 abbrev pub EndsExplaining : Tables → ArgMatches → (was is : Sink) → Result Verdict Refusal → Type 0
-EndsExplaining t m was is result = EndsTold t (is_given m (codes "json")) (code_in m) was is result
+EndsExplaining t m was is result =
+    (json : Bool) × (json ≡ is_given m (codes "json")) × EndsTold t json (code_in m) was is result
+
+-- where a command writes questions: the file of `--ask` of a review, if it is given
+abbrev pub questions_path : Order → ArgMatches → Option (List ℕ)
+questions_path (Log task) m = ask_path task m
+questions_path _ m = None
 
 -- What the command does that asks for this: over these files and tables, from this reader to this writer. An explanation
 -- leaves the reader alone.
-abbrev pub Ends : Contents → Tables → ArgMatches → Order → (before after : Source) → (was is : Sink)
+abbrev pub Ends : (old new : Files) → Tables → ArgMatches → Order → (before after : Source) → (was is : Sink)
     → Result Verdict Refusal → Type 0
-Ends files tables m (Log task) before after was is result = EndsLog files m task before after was is result
-Ends files tables m (Sent signing) before after was is result = EndsSigning files m signing before after was is result
-Ends files tables m Explain before after was is result =
-    (after ≡ before) × EndsExplaining tables m was is result
+Ends old new tables m (Log task) before after was is result = EndsLog old new m task before after was is result
+Ends old new tables m (Sent signing) before after was is result =
+    EndsSigning old.contents m signing before after was is result
+Ends old new tables m Explain before after was is result = (after ≡ before) × EndsExplaining tables m was is result

@@ -14,10 +14,10 @@ use Rattle.ss_report.specs.FaultCode.{run_fault_code}
 use Rattle.ss_report.specs.declared.fault.RunFault.TheVariants as run
 use Rattle.ss_report.specs.declared.verdict.verdict.Verdict.{Verdict}
 use Rattle.ssign.specs.CommandLine.{form_of, is_given, order_in, ssign_app, status_of}
-use Rattle.ssign.specs.GivenFiles.{Contents}
+use Rattle.ssign.specs.GivenFiles.{Files}
 use Rattle.ssign.specs.Options.{AreVersions, Kept}
-use Rattle.ssign.specs.Orders.{Ends, code_in}
-use Rattle.ssign.specs.Refusal.{is_before_run, is_failed_write, refusal_code}
+use Rattle.ssign.specs.Orders.{Ends, code_in, questions_path}
+use Rattle.ssign.specs.Refusal.{is_before_questions, is_before_run, is_failed_write, refusal_code}
 use Rattle.ssign.specs.Remark.{IsRemark}
 use Rattle.ssign.specs.declared.command_line.Order.{Order}
 use Rattle.ssign.specs.declared.explanations.Tables.{Tables}
@@ -46,11 +46,12 @@ abbrev pub IsUnexplained : ArgMatches → Notice → Type 0
 IsUnexplained m (Unexplained code) = code.now ≡ unwrap_or (code_in m) []
 IsUnexplained m _ = ⊥
 
--- A refusal without a code: two options exclude each other, a code is missing, or no entry has it. What a parse by the
+-- A refusal without a code: two options exclude each other, one or a code is missing, or no entry has it. What a parse by the
 -- program's commands doesn't let through prints nothing.
 abbrev pub IsMistake : ArgMatches → Refusal → Notice → Type 0
 IsMistake m (refusals.SalvagedLines task) notice = IsUsage kinds.ArgumentConflict notice
 IsMistake m (refusals.Extraction extraction.Both) notice = IsUsage kinds.ArgumentConflict notice
+IsMistake m refusals.UnansweredAsk notice = IsUsage kinds.MissingRequiredArgument notice
 IsMistake m refusals.NoCode notice = IsUsage kinds.MissingRequiredArgument notice
 IsMistake m refusals.NoEntry notice = IsUnexplained m notice
 IsMistake m _ notice = notice ≡ Nothing
@@ -120,51 +121,54 @@ abbrev pub fresh : Option (List ℕ) → Source
 fresh known = record { left = known; failed = false }
 
 -- an order ends so, over a reader with these octets, where they are known, and from one state of the writer to another
-pub record EndsOver (files : Contents) (tables : Tables) (m : ArgMatches) (order : Order)
+pub record EndsOver (old new : Files) (tables : Tables) (m : ArgMatches) (order : Order)
     (known : Option (List ℕ)) (was is : Sink) (ended : Result Verdict Refusal) : Type 0
   where
     pub after : Source
-    pub ends : Ends files tables m order (fresh known) after was is ended
+    pub ends : Ends old new tables m order (fresh known) after was is ended
     pub unread : IfErr ended (λ refusal. is_before_run refusal ≡ true → after ≡ fresh known)
     pub untouched : IfErr ended (λ refusal. is_failed_write refusal ≡ false → is ≡ was)
+    pub unasked : questions_path order m ≡ None → new.written ≡ old.written
+    pub unopened : IfErr ended (λ refusal. is_before_questions refusal ≡ true → new.written ≡ old.written)
 
 -- memory for the buffer of the reader ran out, before anything was read
-pub record LacksBuffer (was is : Sink) (ended : Result Verdict Refusal) : Type 0 where
+pub record LacksBuffer (old new : Files) (was is : Sink) (ended : Result Verdict Refusal) : Type 0 where
   pub refused : ended ≡ Err (refusals.Run run.Memory)
   pub untouched : is ≡ was
+  pub unopened : new.written ≡ old.written
 
-abbrev pub EndsFrom : Contents → Tables → ArgMatches → Order → (known : Option (List ℕ)) → (was is : Sink)
+abbrev pub EndsFrom : (old new : Files) → Tables → ArgMatches → Order → (known : Option (List ℕ)) → (was is : Sink)
     → Result Verdict Refusal → Type 0
-EndsFrom files tables m order known was is ended =
-    LacksBuffer was is ended ⊎ EndsOver files tables m order known was is ended
+EndsFrom old new tables m order known was is ended =
+    LacksBuffer old new was is ended ⊎ EndsOver old new tables m order known was is ended
 
 -- What a run of an order comes to, over a reader with these octets that has kept these in the end: it ends as `Ends`
 -- defines it, and the outcome is that of this end.
-pub record RunsTo (files : Contents) (tables : Tables) (m : ArgMatches) (order : Order)
+pub record RunsTo (old new : Files) (tables : Tables) (m : ArgMatches) (order : Order)
     (known : Option (List ℕ)) (kept : List ℕ) (was is : Sink) (o : Outcome) : Type 0
   where
     pub ended : Result Verdict Refusal
-    pub ends : EndsFrom files tables m order known was is ended
+    pub ends : EndsFrom old new tables m order known was is ended
     pub outcome : EndsWith m (form_of (is_given m (codes "lines"))) kept ended o
 
 -- what a run of the order comes to, if there is one
-abbrev pub RunsOrder : Contents → Tables → ArgMatches → Option Order → (known : Option (List ℕ))
+abbrev pub RunsOrder : (old new : Files) → Tables → ArgMatches → Option Order → (known : Option (List ℕ))
     → (kept : List ℕ) → (was is : Sink) → Outcome → Type 0
-RunsOrder files tables m (Some order) known kept was is o = RunsTo files tables m order known kept was is o
-RunsOrder files tables m None known kept was is o = (o ≡ silent) × (is ≡ was)
+RunsOrder old new tables m (Some order) known kept was is o = RunsTo old new tables m order known kept was is o
+RunsOrder old new tables m None known kept was is o = (o ≡ silent) × (is ≡ was) × (new.written ≡ old.written)
 
 -- What a run of the named command with these options comes to: the rows of the matches are the options.
-pub record RunsCommand (files : Contents) (tables : Tables) (name : Text) (rows : List Row)
+pub record RunsCommand (old new : Files) (tables : Tables) (name : Text) (rows : List Row)
     (known : Option (List ℕ)) (kept : List ℕ) (was is : Sink) (o : Outcome) : Type 0
   where
     pub options : ArgMatches
     pub given : rows_of (found_of options) ≡ rows
-    pub runs : RunsOrder files tables options (order_in name) known kept was is o
+    pub runs : RunsOrder old new tables options (order_in name) known kept was is o
 
-abbrev pub RunsNamed : Contents → Tables → Option (Text × List Row) → (known : Option (List ℕ))
+abbrev pub RunsNamed : (old new : Files) → Tables → Option (Text × List Row) → (known : Option (List ℕ))
     → (kept : List ℕ) → (was is : Sink) → Outcome → Type 0
-RunsNamed files tables (Some (name, rows)) known kept was is o = RunsCommand files tables name rows known kept was is o
-RunsNamed files tables None known kept was is o = (o ≡ silent) × (is ≡ was)
+RunsNamed old new tables (Some (name, rows)) known kept was is o = RunsCommand old new tables name rows known kept was is o
+RunsNamed old new tables None known kept was is o = (o ≡ silent) × (is ≡ was) × (new.written ≡ old.written)
 
 -- clap's definition finds no fault in words for the program's commands, and this is the command that they name, with the
 -- options that they give
@@ -188,12 +192,12 @@ abbrev pub IsParsed : List (List ℕ) → Result ArgMatches Outcome → Type 0
 IsParsed words (Ok m) = IsTaken words (subcommand_rows_of m)
 IsParsed words (Err o) = IsRefused words o
 
--- What a run of words comes to. The command runs that they name; or they are refused, and nothing is written.
-abbrev pub RunsWords : Contents → Tables → List (List ℕ) → (known : Option (List ℕ)) → (kept : List ℕ)
+-- What a run of words comes to. The command runs that they name; or they are refused, and nothing is written or opened.
+abbrev pub RunsWords : (old new : Files) → Tables → List (List ℕ) → (known : Option (List ℕ)) → (kept : List ℕ)
     → (was is : Sink) → Outcome → Type 0
-RunsWords files tables words known kept was is o =
-    ((named : Option (Text × List Row)) × IsTaken words named × RunsNamed files tables named known kept was is o)
-    ⊎ (IsRefused words o × (is ≡ was))
+RunsWords old new tables words known kept was is o =
+    ((named : Option (Text × List Row)) × IsTaken words named × RunsNamed old new tables named known kept was is o)
+    ⊎ (IsRefused words o × (is ≡ was) × (new.written ≡ old.written))
 
 -- ---- the exit status
 

@@ -8,12 +8,12 @@ use Rattle.ss_signing.specs.declared.fault.SignFault.{SignFault}
 use Rattle.ss_signing.specs.declared.fault.SignFault.TheVariants as signing
 use Rattle.ss_signing.specs.FaultCode.{sign_fault_code}
 use Rattle.ss_answers.specs.FaultCode.{answer_fault_code, counter_fault_code, start_fault_code}
-use Rattle.ssign.specs.FaultCode.{settings_fault_code}
+use Rattle.ssign.specs.FaultCode.{questions_fault_code, settings_fault_code}
 use Rattle.ssign.specs.declared.extraction.ExtractionFault.TheVariants as extraction
 use Rattle.ssign.specs.declared.refusal.Refusal.{Refusal}
 use Rattle.ssign.specs.declared.refusal.Refusal.TheVariants.{NoOption, SalvagedLines, Extraction, From, Counters, Pinned}
 use Rattle.ssign.specs.declared.refusal.Refusal.TheVariants.{Answers, Settings, Resume, Start, Run, Signing, NoCode}
-use Rattle.ssign.specs.declared.refusal.Refusal.TheVariants.{NoEntry}
+use Rattle.ssign.specs.declared.refusal.Refusal.TheVariants.{NoEntry, UnansweredAsk, Questions, LateAnswers, LateRun}
 
 -- what is seen of a code
 abbrev pub code_seen : Option Code → Option (List ℕ × Option ℕ)
@@ -23,6 +23,7 @@ code_seen code = option_map (λ c. (c.name.now, c.place)) code
 abbrev pub refusal_code : Refusal → Option (List ℕ × Option ℕ)
 refusal_code NoOption = None
 refusal_code (SalvagedLines task) = None
+refusal_code UnansweredAsk = None
 refusal_code (Extraction extraction.Both) = None
 refusal_code (Extraction extraction.NoNumber) = None
 refusal_code (Extraction extraction.Memory) = Some (run_fault_code run.Memory)
@@ -34,6 +35,9 @@ refusal_code (Settings fault) = Some (settings_fault_code fault)
 refusal_code (Resume fault) = Some (counter_fault_code fault)
 refusal_code (Start fault) = Some (start_fault_code fault)
 refusal_code (Run fault) = Some (run_fault_code fault)
+refusal_code (Questions fault) = Some (questions_fault_code fault)
+refusal_code (LateAnswers fault) = Some (answer_fault_code fault)
+refusal_code (LateRun fault) = Some (run_fault_code fault)
 refusal_code (Signing fault) = Some (sign_fault_code fault)
 refusal_code NoCode = None
 refusal_code NoEntry = None
@@ -42,7 +46,17 @@ refusal_code NoEntry = None
 abbrev pub is_before_run : Refusal → Bool
 is_before_run (Run fault) = false
 is_before_run (Signing fault) = false
+is_before_run (Questions fault) = false
+is_before_run (LateAnswers fault) = false
+is_before_run (LateRun fault) = false
 is_before_run _ = true
+
+-- it comes before the questions of a log are written to a file: before the run, or where the log can't be read to its end
+abbrev pub is_before_questions : Refusal → Bool
+is_before_questions (Questions fault) = false
+is_before_questions (LateAnswers fault) = false
+is_before_questions (LateRun fault) = false
+is_before_questions _ = true
 
 -- a call of the writer failed
 abbrev pub is_write : RunFault → Bool
@@ -55,5 +69,6 @@ is_write_of_signing _ = false
 
 abbrev pub is_failed_write : Refusal → Bool
 is_failed_write (Run fault) = is_write fault
+is_failed_write (LateRun fault) = is_write fault
 is_failed_write (Signing fault) = is_write_of_signing fault
 is_failed_write _ = false

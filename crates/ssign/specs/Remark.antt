@@ -11,8 +11,8 @@ use Rattle.ssign.specs.declared.likely_cause.LikelyCause.{LikelyCause}
 use Rattle.ssign.specs.declared.refusal.Refusal.{Refusal}
 use Rattle.ssign.specs.declared.refusal.Refusal.TheVariants as refusals
 use Rattle.ssign.specs.declared.refusing.Remark.{Remark}
-use Rattle.ssign.specs.declared.refusing.Remark.TheVariants.{Nothing, AnswersFile, CountersFile, FromFile}
-use Rattle.ssign.specs.declared.refusing.Remark.TheVariants.{PinnedFile, ResumeFile, Text, Cause}
+use Rattle.ssign.specs.declared.refusing.Remark.TheVariants.{Nothing, AnswersFile, QuestionsFile, CountersFile}
+use Rattle.ssign.specs.declared.refusing.Remark.TheVariants.{FromFile, PinnedFile, ResumeFile, Text, Cause}
 use Rattle.ssign.specs.declared.settings.SettingsFault.{SettingsFault}
 use Rattle.ssign.specs.declared.settings.SettingsFault.TheVariants.{OutOfForm, Memory}
 
@@ -39,6 +39,8 @@ IsRemark (refusals.From fault) m form octets remark = NamesFile FromFile (path_i
 IsRemark (refusals.Counters fault) m form octets remark = NamesFile CountersFile (path_in m (codes "counters")) remark
 IsRemark (refusals.Pinned fault) m form octets remark = NamesFile PinnedFile (path_in m (codes "pinned")) remark
 IsRemark (refusals.Answers fault) m form octets remark = NamesFile AnswersFile (path_in m (codes "answers")) remark
+IsRemark (refusals.Questions fault) m form octets remark = NamesFile QuestionsFile (path_in m (codes "ask")) remark
+IsRemark (refusals.LateAnswers fault) m form octets remark = NamesFile AnswersFile (path_in m (codes "answers")) remark
 IsRemark (refusals.Resume fault) m form octets remark = NamesFile ResumeFile (path_in m (codes "resume")) remark
 IsRemark (refusals.Start fault) m form octets remark = NamesFile ResumeFile (path_in m (codes "resume")) remark
 IsRemark (refusals.Settings fault) m form octets remark = SaysOfSettings fault m remark

@@ -218,6 +218,13 @@ pub fn code_missing(alloc: Global) -> Result<Error, AllocError>
         )
 }
 
+/// Whether `--json` asks for objects.
+pub fn asks_for_json(matches: &ArgMatches<'_>) -> bool
+    ensures { result ≡ is_given matches.now (codes "json") }
+{
+    is_given(matches, options::JSON.name)
+}
+
 /// The code that is asked about: empty, if no word names one, and none, if no word is given at all.
 pub fn given_code<'a>(matches: &ArgMatches<'a>) -> Option<&'a str>
     ensures { option_map (λ s. s.now) result ≡ code_in matches.now }
@@ -227,6 +234,16 @@ pub fn given_code<'a>(matches: &ArgMatches<'a>) -> Option<&'a str>
     } else {
         None
     }
+}
+
+/// The mistake of a review that is to write its questions, and isn't given the file of the answers to them.
+pub fn unanswered_ask(alloc: Global) -> Result<Error, AllocError>
+    ensures { IfOk result (λ e. kind_of e ≡ ErrorKind.MissingRequiredArgument) }
+{
+    Order::Log(Task::Review).command(alloc, versions())?.error(
+        ErrorKind::MissingRequiredArgument,
+        "the argument '--ask <ask>' cannot be used without '--answers <answers>'",
+    )
 }
 
 /// The code that is asked about, if a word names one.
@@ -242,6 +259,13 @@ pub fn answers_file<'a>(matches: &ArgMatches<'a>) -> Option<&'a str>
     ensures { option_map (λ s. s.now) result ≡ first_value (found_of matches.now) (codes "answers") }
 {
     matches.get_str(options::ANSWERS.name)
+}
+
+/// The file to which the questions of a review are to be written, if one was given.
+pub fn ask_file<'a>(matches: &ArgMatches<'a>) -> Option<&'a str>
+    ensures { option_map (λ s. s.now) result ≡ first_value (found_of matches.now) (codes "ask") }
+{
+    matches.get_str(options::ASK.name)
 }
 
 /// The file of the counters at which an originator goes on, if one was given.

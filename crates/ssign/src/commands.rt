@@ -1,6 +1,6 @@
 //! The commands: a row for each.
 use crate::options::{
-    AHEAD, ANSWERS, ANSWERS_SEALED, CODE, COUNTERS as COUNTERS_FILE, FINDINGS, FINDINGS_PLAIN,
+    AHEAD, ANSWERS, ANSWERS_SEALED, ASK, CODE, COUNTERS as COUNTERS_FILE, FINDINGS, FINDINGS_PLAIN,
     FROM, JSON, JSON_EXPLAINED, LINES_OUT, ONCE, OptionRow, PINNED, PLACE, READING, RESUME,
     SALVAGE, SALVAGE_REPORTED, SIGNING, TALLY, UNLISTED, UNWRAP, UNWRAP_SHOWN, WHOLE, WRAP,
 };
@@ -36,6 +36,7 @@ pub const REVIEW: CommandRow = CommandRow {
     note: Note::Usage("ssign review [OPTIONS] < FILE"),
     options: &[
         ANSWERS,
+        ASK,
         FINDINGS,
         JSON,
         WHOLE,

@@ -1,31 +1,57 @@
 //! The files that options name.
-ghost use Rattle.std.specs.Prelude.{IfOk, IfSome, option_map};
+ghost use Rattle.std.specs.Prelude.{◌≡◌, IfOk, IfSome, List, Option, option_map};
 ghost use Rattle.std.specs.List.{AllByRecursion};
 ghost use Rattle.ss_review.specs.counted.CounterRange.{IsCounter};
-ghost use Rattle.ssign.specs.GivenFiles.{Contents, Gives};
+ghost use Rattle.ss_answers.specs.Answers.{Rise};
+ghost use Rattle.ssign.specs.GivenFiles.{Adds, Contents, Gives, HoldsNothing, WrittenFile};
 
+use crate::questions_fault::QuestionsFault;
 use ss_answers::{AnswerFault, Answers, CounterFault, open_answers, open_counters, open_payloads};
 use ss_octets::{Bytes, List as OwnedList};
 use ss_review::Counters;
+use std::io::{BufWriter, Write};
 use std::rt::Files;
+use std::{fs, io};
+
+/// How much of a file is written at once, in octets.
+const BUFFER_SIZE: usize = 65_536;
 
 /// Files, each of which has a path.
 pub trait GivenFiles {
     /// What each of them may give.
     ghost contents: { Self → Contents };
 
+    /// The files that were written, in their order, where that is known.
+    ghost written: { Self → Option (List WrittenFile) };
+
+    /// A file that is being written.
+    type Output: Write + Drop;
+
     /// The counters of a file, in their order.
     fn counters(&self, path: &str) -> Result<Counters, CounterFault>
         ensures given { (contents self.now).counters path.now result }
         ensures in_range { IfOk result (λ counters. AllByRecursion IsCounter counters) };
 
-    /// The payloads that the lines `trust PAYLOAD` of an answers file trust, each once.
+    /// The payloads that the lines `trust PAYLOAD` of an answers file trust, each once, in the order of their octets.
     fn payloads(&self, path: &str) -> Result<OwnedList<Bytes>, AnswerFault>
-        ensures { (contents self.now).payloads path.now result };
+        ensures given { (contents self.now).payloads path.now result }
+        ensures rise { IfOk result Rise };
 
     /// The answers of a file.
     fn answers(&self, path: &str) -> Result<Answers, AnswerFault>
         ensures { (contents self.now).answers path.now result };
+
+    /// Makes the file of this path, or opens it, to write it from its beginning.
+    fn create(&mut self, path: &str) -> Result<Self::Output, QuestionsFault>
+        ensures made { IfOk result (λ output. HoldsNothing (Self.Output.contents output)) }
+        ensures written { written self.new ≡ written self.old };
+
+    /// Closes the file of this path, of which this is the writer.
+    fn close(&mut self, path: &str, output: Self::Output)
+        ensures { Adds (written self.old) (written self.new) (record {
+          path = path.now;
+          octets = Self.Output.contents output;
+        }) };
 }
 
 /// The files of the system.
@@ -42,9 +68,14 @@ impl<'r, R> SystemFiles<'r, R> {
 }
 
 impl<R: Files + AllocGlobal> GivenFiles for SystemFiles<'_, R> {
+    ghost use Rattle.std.specs.Prelude.{None};
     ghost use Rattle.ssign.specs.GivenFiles.{of_system};
 
     ghost contents = { λ _. of_system };
+
+    ghost written = { λ _. None };
+
+    type Output = SystemOutput<R::File>;
 
     fn counters(&self, path: &str) -> Result<Counters, CounterFault> {
         open_counters(self.rt, path)
@@ -59,6 +90,43 @@ impl<R: Files + AllocGlobal> GivenFiles for SystemFiles<'_, R> {
 
     fn answers(&self, path: &str) -> Result<Answers, AnswerFault> {
         open_answers(self.rt, path)
+    }
+
+    fn create(&mut self, path: &str) -> Result<SystemOutput<R::File>, QuestionsFault> {
+        let Ok(file) = fs::create(self.rt, path) else {
+            return Err(QuestionsFault::File);
+        };
+        match BufWriter::with_capacity(self.rt.alloc(), BUFFER_SIZE, file) {
+            Ok(buffer) => Ok(SystemOutput { buffer }),
+            Err(_) => Err(QuestionsFault::Memory),
+        }
+    }
+
+    fn close(&mut self, _path: &str, output: SystemOutput<R::File>)
+        // No contract sees which files of the system are written.
+        ensures { Unit {0} }
+    {
+        drop(output);
+    }
+}
+
+/// A file of the system that is being written, through a buffer. No contract sees what it holds.
+#[derive(Drop)]
+pub struct SystemOutput<F: Write + Drop> {
+    buffer: BufWriter<F>,
+}
+
+impl<F: Write + Drop> Write for SystemOutput<F> {
+    ghost use Rattle.std.specs.Prelude.{None};
+
+    ghost contents = { λ _. None };
+
+    fn write(&mut self, buf: &[u8]) -> io::Result<usize> {
+        self.buffer.write(buf)
+    }
+
+    fn flush(&mut self) -> io::Result<()> {
+        self.buffer.flush()
     }
 }
 
@@ -84,7 +152,8 @@ pub fn payloads_in<F: GivenFiles>(
     files: &F,
     path: Option<&str>,
 ) -> Result<Option<OwnedList<Bytes>>, AnswerFault>
-    ensures { Gives (F.contents files.now).payloads (option_map (λ s. s.now) path.entry) result }
+    ensures given { Gives (F.contents files.now).payloads (option_map (λ s. s.now) path.entry) result }
+    ensures rise { IfOk result (λ payloads. IfSome payloads Rise) }
 {
     let Some(path) = path else {
         return Ok(None);

@@ -88,6 +88,14 @@ pub const ANSWERS_SEALED: OptionRow = OptionRow {
     ..ANSWERS
 };
 
+/// `--ask`: the file to which a review writes its questions, before it reads the answers.
+pub const ASK: OptionRow = OptionRow {
+    name: "ask",
+    help: "Reads the log, writes to FILE the questions of ssign questions --once and a last line end, and only then \
+        reads the answers: for a signature checker that runs beside it; --answers has to be given too",
+    ..FILE
+};
+
 /// `--findings`: leaves out what is no finding.
 pub const FINDINGS: OptionRow = OptionRow {
     name: "findings",

@@ -1,11 +1,14 @@
 //! What the commands do, over any files, reader and writer.
-ghost use Rattle.std.specs.Prelude.{◌≡◌, false, true, IfErr};
+ghost use Rattle.std.specs.Prelude.{◌≡◌, None, false, true, IfErr};
 ghost use Rattle.ss_frame.specs.Watched.{has_failed, source_of, sink_of};
-ghost use Rattle.ssign.specs.Orders.{Ends};
-ghost use Rattle.ssign.specs.Refusal.{is_before_run, is_failed_write};
+ghost use Rattle.ssign.specs.GivenFiles.{files_of};
+ghost use Rattle.ssign.specs.Orders.{Ends, questions_path};
+ghost use Rattle.ssign.specs.Refusal.{is_before_questions, is_before_run, is_failed_write};
 
+mod asking;
 mod explanation;
 mod log;
+mod prepare;
 mod signing;
 
 use crate::command_line::Order;
@@ -26,10 +29,10 @@ use std::io::{Read, Write};
 /// # Errors
 ///
 /// As `run_log`, `run_sent` and `run_explain`. Nothing was read if no run had begun. But for a failed write, nothing was
-/// written.
+/// written to the writer.
 pub fn run_order<F: GivenFiles, R: Read, W: Write>(
     alloc: Global,
-    files: &F,
+    files: &mut F,
     reader: &mut Watched<R>,
     writer: &mut Watched<W>,
     tables: Tables<'_>,
@@ -38,11 +41,15 @@ pub fn run_order<F: GivenFiles, R: Read, W: Write>(
 ) -> Result<Verdict, Refusal>
     requires reader { has_failed reader.old ≡ false }
     requires writer { has_failed writer.old ≡ false }
-    ensures ends { Ends (F.contents files.now) tables.entry options.now order
+    ensures ends { Ends (files_of F.contents F.written files.old) (files_of F.contents F.written files.new)
+        tables.entry options.now order
         (source_of R.remaining reader.old) (source_of R.remaining reader.new)
         (sink_of W.contents writer.old) (sink_of W.contents writer.new) result }
     ensures unread { IfErr result (λ refusal. is_before_run refusal ≡ true → reader.new ≡ reader.old) }
     ensures untouched { IfErr result (λ refusal. is_failed_write refusal ≡ false → writer.new ≡ writer.old) }
+    // Only a review with `--ask` writes a file, and only once it has read its log.
+    ensures unasked { questions_path order options.now ≡ None → files.new ≡ files.old }
+    ensures unopened { IfErr result (λ refusal. is_before_questions refusal ≡ true → files.new ≡ files.old) }
 {
     match order {
         Order::Log(task) => run_log(alloc, files, reader, writer, task, options),

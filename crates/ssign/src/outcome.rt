@@ -6,7 +6,9 @@ ghost use Rattle.ssign.specs.Outcome.{IsUnexplained, IsUsage};
 ghost use Rattle.ssign.specs.Outcome.{outcome_of_fault, silent, status_of_kind};
 ghost use Rattle.ssign.specs.Refusal.{refusal_code};
 
-use crate::command_line::{code_missing, extract_conflict, given_code, salvage_conflict};
+use crate::command_line::{
+    code_missing, extract_conflict, given_code, salvage_conflict, unanswered_ask,
+};
 use crate::extraction::ExtractionFault;
 use crate::refusal::Refusal;
 use crate::refusing::{Remark, remark_on};
@@ -152,9 +154,10 @@ fn mistake_of<'a>(alloc: Global, refusal: Refusal, options: &ArgMatches<'a>) -> 
     ensures { IsMistake options.now refusal result }
 {
     match refusal {
-        Refusal::SalvagedLines(task) => return usage_of(salvage_conflict(alloc, task)),
-        Refusal::Extraction(ExtractionFault::Both) => return usage_of(extract_conflict(alloc)),
-        Refusal::NoCode => return usage_of(code_missing(alloc)),
+        Refusal::SalvagedLines(task) => return conflict_of(salvage_conflict(alloc, task)),
+        Refusal::Extraction(ExtractionFault::Both) => return conflict_of(extract_conflict(alloc)),
+        Refusal::UnansweredAsk => return missing_of(unanswered_ask(alloc)),
+        Refusal::NoCode => return missing_of(code_missing(alloc)),
         Refusal::NoEntry => return unexplained(options),
         _ => {}
     }
@@ -168,11 +171,23 @@ fn unexplained<'a>(options: &ArgMatches<'a>) -> Notice<'a>
     Notice::Unexplained(given_code(options).unwrap_or(""))
 }
 
-/// This mistake of the command line, or that there is no memory for it.
-fn usage_of<'a>(mistake: Result<Error, AllocError>) -> Notice<'a>
-    ensures { (kind : ErrorKind) → IfOk mistake (λ fault. kind_of fault ≡ kind) → IsUsage kind result }
+/// That two options exclude each other, like other mistakes of the command line, or that there is no memory for it.
+fn conflict_of<'a>(conflict: Result<Error, AllocError>) -> Notice<'a>
+    ensures { IfOk conflict (λ fault. kind_of fault ≡ ErrorKind.ArgumentConflict)
+        → IsUsage ErrorKind.ArgumentConflict result }
 {
-    match mistake {
+    match conflict {
+        Ok(fault) => Notice::Parsed(fault),
+        Err(_) => memory_notice(),
+    }
+}
+
+/// That an option or a code is missing, or that there is no memory for it.
+fn missing_of<'a>(missing: Result<Error, AllocError>) -> Notice<'a>
+    ensures { IfOk missing (λ fault. kind_of fault ≡ ErrorKind.MissingRequiredArgument)
+        → IsUsage ErrorKind.MissingRequiredArgument result }
+{
+    match missing {
         Ok(fault) => Notice::Parsed(fault),
         Err(_) => memory_notice(),
     }

@@ -4,6 +4,7 @@ ghost use Rattle.clap.specs.Words.{HasKind, Kinds, subcommand_rows_of};
 ghost use Rattle.ss_frame.specs.Watched.{has_failed, sink_of};
 ghost use Rattle.ssign.specs.CommandLine.{AreMistaken, is_payload, order_in};
 ghost use Rattle.ssign.specs.FirstOctets.{inside, kept_octets};
+ghost use Rattle.ssign.specs.GivenFiles.{files_of};
 ghost use Rattle.ssign.specs.Outcome.{IsParsed, MeetsFault, RunsNamed, RunsOrder, RunsTo, RunsWords};
 
 use crate::command_line::{Order, command, form_in, order_of};
@@ -68,22 +69,22 @@ fn run_on_devices<'a, R: Input + Print + Eprint + Screen + Files + Clock + Alloc
     let Ok(mut writer) = standard_output(rt) else {
         return out_of_memory();
     };
-    let files = SystemFiles::new(rt);
+    let mut files = SystemFiles::new(rt);
     let mut input = FirstOctets::new(rt.reader());
-    run_words(rt, &files, &mut input, &mut writer, all_tables(), words)
+    run_words(rt, &mut files, &mut input, &mut writer, all_tables(), words)
 }
 
 /// Runs the program with the words of its command line, over any files, input and writer.
 pub fn run_words<'a, R: Eprint + Screen + Clock + AllocGlobal, F: GivenFiles, I: Read, W: Write>(
     rt: &R,
-    files: &F,
+    files: &mut F,
     input: &mut FirstOctets<I>,
     writer: &mut Watched<W>,
     tables: Tables<'_>,
     words: &'a [String],
 ) -> Outcome<'a>
     requires { has_failed writer.old ≡ false }
-    ensures runs { RunsWords (F.contents files.now) tables.entry (map string_bytes words.entry.now)
+    ensures runs { RunsWords (files_of F.contents F.written files.old) (files_of F.contents F.written files.new) tables.entry (map string_bytes words.entry.now)
         (I.remaining (inside input.old)) (kept_octets input.new)
         (sink_of W.contents writer.old) (sink_of W.contents writer.new) result }
     ensures most { result.status ≤ 2 }
@@ -126,14 +127,14 @@ fn outcome_of_words<'a>(alloc: Global, words: &[String], fault: Error) -> Outcom
 /// Carries out the command that the matches name.
 fn run_command<'a, R: Eprint + Screen + Clock + AllocGlobal, F: GivenFiles, I: Read, W: Write>(
     rt: &R,
-    files: &F,
+    files: &mut F,
     input: &mut FirstOctets<I>,
     writer: &mut Watched<W>,
     tables: Tables<'_>,
     matches: &ArgMatches<'a>,
 ) -> Outcome<'a>
     requires { has_failed writer.old ≡ false }
-    ensures { RunsNamed (F.contents files.now) tables.entry (subcommand_rows_of matches.now)
+    ensures { RunsNamed (files_of F.contents F.written files.old) (files_of F.contents F.written files.new) tables.entry (subcommand_rows_of matches.now)
         (I.remaining (inside input.old)) (kept_octets input.new)
         (sink_of W.contents writer.old) (sink_of W.contents writer.new) result }
 {
@@ -146,7 +147,7 @@ fn run_command<'a, R: Eprint + Screen + Clock + AllocGlobal, F: GivenFiles, I: R
 /// Carries out the command of this name.
 fn run_named<'a, R: Eprint + Screen + Clock + AllocGlobal, F: GivenFiles, I: Read, W: Write>(
     rt: &R,
-    files: &F,
+    files: &mut F,
     input: &mut FirstOctets<I>,
     writer: &mut Watched<W>,
     tables: Tables<'_>,
@@ -154,7 +155,7 @@ fn run_named<'a, R: Eprint + Screen + Clock + AllocGlobal, F: GivenFiles, I: Rea
     options: &ArgMatches<'a>,
 ) -> Outcome<'a>
     requires { has_failed writer.old ≡ false }
-    ensures { RunsOrder (F.contents files.now) tables.entry options.now (order_in name.now)
+    ensures { RunsOrder (files_of F.contents F.written files.old) (files_of F.contents F.written files.new) tables.entry options.now (order_in name.now)
         (I.remaining (inside input.old)) (kept_octets input.new)
         (sink_of W.contents writer.old) (sink_of W.contents writer.new) result }
 {
@@ -167,7 +168,7 @@ fn run_named<'a, R: Eprint + Screen + Clock + AllocGlobal, F: GivenFiles, I: Rea
 /// Carries out what a command asks for: from the input to the writer.
 pub fn run_over<'a, R: Eprint + Screen + Clock + AllocGlobal, F: GivenFiles, I: Read, W: Write>(
     rt: &R,
-    files: &F,
+    files: &mut F,
     input: &mut FirstOctets<I>,
     writer: &mut Watched<W>,
     tables: Tables<'_>,
@@ -175,7 +176,7 @@ pub fn run_over<'a, R: Eprint + Screen + Clock + AllocGlobal, F: GivenFiles, I: 
     options: &ArgMatches<'a>,
 ) -> Outcome<'a>
     requires { has_failed writer.old ≡ false }
-    ensures { RunsTo (F.contents files.now) tables.entry options.now order
+    ensures { RunsTo (files_of F.contents F.written files.old) (files_of F.contents F.written files.new) tables.entry options.now order
         (I.remaining (inside input.old)) (kept_octets input.new)
         (sink_of W.contents writer.old) (sink_of W.contents writer.new) result }
 {

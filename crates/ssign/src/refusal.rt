@@ -3,6 +3,7 @@ ghost use Rattle.std.specs.Prelude.{◌≡◌};
 ghost use Rattle.ssign.specs.Refusal.{code_seen, refusal_code};
 
 use crate::extraction::ExtractionFault;
+use crate::questions_fault::QuestionsFault;
 use crate::settings::SettingsFault;
 use crate::task::Task;
 use ss_answers::{AnswerFault, CounterFault, StartFault};
@@ -17,6 +18,8 @@ pub enum Refusal {
     NoOption,
     /// A log of lines is to be read on after damage, which is for frames alone. The command asks for this.
     SalvagedLines(Task),
+    /// The questions of a review are to be written to a file, and no file of answers is named.
+    UnansweredAsk,
     /// The options don't name what is to be extracted.
     Extraction(ExtractionFault),
     /// The file of `--from` gives no counters.
@@ -35,6 +38,12 @@ pub enum Refusal {
     Start(StartFault),
     /// The run over a log failed.
     Run(RunFault),
+    /// The log was read, and its questions couldn't be written to the file of `--ask`.
+    Questions(QuestionsFault),
+    /// The log was read and its questions were written, and the file of `--answers` gives no answers.
+    LateAnswers(AnswerFault),
+    /// The log of a review with `--ask` was read, and then memory ran out, or the report couldn't be written.
+    LateRun(RunFault),
     /// The run that signs a log failed.
     Signing(SignFault),
     /// No code is asked about, and not for all of them.
@@ -49,8 +58,8 @@ impl Refusal {
         ensures { code_seen result ≡ refusal_code self }
     {
         match self {
-            Refusal::NoOption | Refusal::SalvagedLines(_) | Refusal::NoCode | Refusal::NoEntry =>
-                None,
+            Refusal::NoOption | Refusal::SalvagedLines(_) | Refusal::NoEntry => None,
+            Refusal::UnansweredAsk | Refusal::NoCode => None,
             Refusal::Extraction(ExtractionFault::Both) => None,
             Refusal::Extraction(ExtractionFault::NoNumber) => None,
             Refusal::Extraction(ExtractionFault::Memory) => Some(RunFault::Memory.code()),
@@ -59,7 +68,9 @@ impl Refusal {
             Refusal::Settings(fault) => Some(fault.code()),
             Refusal::Resume(fault) => Some(fault.code()),
             Refusal::Start(fault) => Some(fault.code()),
-            Refusal::Run(fault) => Some(fault.code()),
+            Refusal::Run(fault) | Refusal::LateRun(fault) => Some(fault.code()),
+            Refusal::Questions(fault) => Some(fault.code()),
+            Refusal::LateAnswers(fault) => Some(fault.code()),
             Refusal::Signing(fault) => Some(fault.code()),
         }
     }

@@ -4,11 +4,13 @@ ghost use Rattle.ssign.specs.Outcome.{IsShown, refusal_line};
 ghost use Rattle.ssign.specs.Remark.{IsRemark, cause_remark, SaysOfSettings};
 
 use crate::asked::asked_word;
-use crate::command_line::{answers_file, counters_file, from_file, pinned_file, resume_file};
+use crate::command_line::{
+    answers_file, ask_file, counters_file, from_file, pinned_file, resume_file,
+};
 use crate::explain::explanation_of;
 use crate::explanations::{Tables, all_tables};
 use crate::likely_cause::{LikelyCause, run_cause, signing_cause};
-use crate::options::{ANSWERS, COUNTERS, FROM, PINNED, RESUME};
+use crate::options::{ANSWERS, ASK, COUNTERS, FROM, PINNED, RESUME};
 use crate::outcome::{Notice, Outcome, REFUSED};
 use crate::refusal::Refusal;
 use crate::settings::SettingsFault;
@@ -43,6 +45,8 @@ pub enum Remark<'a> {
     Nothing,
     /// This answers file.
     AnswersFile(&'a str),
+    /// This file, to which the questions were to be written.
+    QuestionsFile(&'a str),
     /// This counters file.
     CountersFile(&'a str),
     /// This counters file, at which a night was to begin.
@@ -63,6 +67,9 @@ impl Display for Remark<'_> {
             Remark::Nothing => Ok(()),
             Remark::AnswersFile(file) => {
                 writeln!(f, "The answers file is --{} {file:?}.", ANSWERS.name)
+            }
+            Remark::QuestionsFile(file) => {
+                writeln!(f, "The file of the questions is --{} {file:?}.", ASK.name)
             }
             Remark::CountersFile(file) => {
                 writeln!(f, "The counters file is --{} {file:?}.", COUNTERS.name)
@@ -142,7 +149,11 @@ pub fn remark_on<'a>(
             Some(file) => Remark::PinnedFile(file),
             None => Remark::Nothing,
         },
-        Refusal::Answers(_) => match answers_file(options) {
+        Refusal::Questions(_) => match ask_file(options) {
+            Some(file) => Remark::QuestionsFile(file),
+            None => Remark::Nothing,
+        },
+        Refusal::Answers(_) | Refusal::LateAnswers(_) => match answers_file(options) {
             Some(file) => Remark::AnswersFile(file),
             None => Remark::Nothing,
         },
@@ -155,6 +166,8 @@ pub fn remark_on<'a>(
         Refusal::Signing(fault) => cause_remark(signing_cause(&fault, form, octets)),
         Refusal::NoOption
         | Refusal::SalvagedLines(_)
+        | Refusal::UnansweredAsk
+        | Refusal::LateRun(_)
         | Refusal::Extraction(_)
         | Refusal::NoCode
         | Refusal::NoEntry => Remark::Nothing,

@@ -3,6 +3,7 @@ ghost use Rattle.std.specs.Prelude.{◌≡◌, [], false, IfOk, MatchResult};
 ghost use Rattle.ss_frame.specs.Buffered.{behind, has_failed_behind, waiting};
 ghost use Rattle.ss_frame.specs.Watched.{has_failed, inner_of, sink_of};
 ghost use Rattle.std.specs.Io.Buffered.{writer_buffer};
+ghost use Rattle.ssign.specs.GivenFiles.{files_of};
 ghost use Rattle.ssign.specs.Outcome.{EndsFrom};
 
 use crate::command_line::{Order, form_in};
@@ -27,7 +28,7 @@ const BUFFER_SIZE: usize = 65_536;
 pub fn run_reported<R: Eprint + Screen + Clock + Drop, F: GivenFiles, I: Read + Drop, W: Write>(
     alloc: Global,
     rt: R,
-    files: &F,
+    files: &mut F,
     input: I,
     writer: &mut Watched<W>,
     tables: Tables<'_>,
@@ -35,7 +36,7 @@ pub fn run_reported<R: Eprint + Screen + Clock + Drop, F: GivenFiles, I: Read + 
     options: &ArgMatches<'_>,
 ) -> Result<Verdict, Refusal>
     requires { has_failed writer.old ≡ false }
-    ensures { EndsFrom (F.contents files.now) tables.entry options.now order (I.remaining input)
+    ensures { EndsFrom (files_of F.contents F.written files.old) (files_of F.contents F.written files.new) tables.entry options.now order (I.remaining input)
         (sink_of W.contents writer.old) (sink_of W.contents writer.new) result }
 {
     let mut reader = Progress::new(rt, input, form_in(options));
@@ -47,7 +48,7 @@ pub fn run_reported<R: Eprint + Screen + Clock + Drop, F: GivenFiles, I: Read + 
 /// Carries out what a command asks for, over the octets of the input, through a buffer.
 fn run_buffered<F: GivenFiles, I: Read + Drop, W: Write>(
     alloc: Global,
-    files: &F,
+    files: &mut F,
     input: I,
     writer: &mut Watched<W>,
     tables: Tables<'_>,
@@ -55,7 +56,7 @@ fn run_buffered<F: GivenFiles, I: Read + Drop, W: Write>(
     options: &ArgMatches<'_>,
 ) -> Result<Verdict, Refusal>
     requires { has_failed writer.old ≡ false }
-    ensures { EndsFrom (F.contents files.now) tables.entry options.now order (I.remaining input)
+    ensures { EndsFrom (files_of F.contents F.written files.old) (files_of F.contents F.written files.new) tables.entry options.now order (I.remaining input)
         (sink_of W.contents writer.old) (sink_of W.contents writer.new) result }
 {
     let mut reader = match buffered(alloc, input) {

@@ -1,10 +1,11 @@
 //! What the program makes of a log.
-ghost use Rattle.std.specs.Prelude.{◌≡◌, ◌≢◌, false, IfOk, IfErr};
+ghost use Rattle.std.specs.Prelude.{◌≡◌, ◌≢◌, ℕ, List, Option, false, IfOk, IfErr};
 ghost use Rattle.ss_frame.specs.Watched.{has_failed, source_of, sink_of};
 ghost use Rattle.ss_review.specs.declared.questions.question.Question.{Question};
-ghost use Rattle.ss_review.specs.sessions.Verified.{answers};
+ghost use Rattle.ss_review.specs.sessions.Verified.{Answers, answers};
+ghost use Rattle.ss_report.specs.runs.Jobs.{reviewing_beside};
 ghost use Rattle.ss_report.specs.runs.Run.{Runs, Stops, given};
-ghost use Rattle.ssign.specs.Task.{carrying, inspection_form, job_of};
+ghost use Rattle.ssign.specs.Task.{carrying, inspection_form, job_of, review_of};
 
 use ss_frame::{Form, Watched};
 use ss_octets::Bytes;
@@ -121,29 +122,42 @@ pub fn run_task<R: Read, W: Write, J: Judge + Drop>(
     };
     let Reporting {
         form,
-        whole,
         detail,
         payloads,
         ..
     } = reporting;
     let notation = form.notation();
     match task {
-        Task::Review => match first {
-            Some(first) => {
-                let second = counters;
-                run_review_as(run, judge, form, detail, Beside::Night { first, second })
-            }
-            None if whole => {
-                let up_to = counters;
-                run_review_as(run, judge, form, detail, Beside::Missing { up_to })
-            }
-            None => run_review_as(run, judge, form, detail, Beside::Nothing),
-        },
+        Task::Review => {
+            let beside = beside_of(reporting, first, counters);
+            run_review_as(run, judge, form, detail, beside)
+        }
         Task::Questions => run_questions(run, notation, payloads),
         Task::Extract => run_extract(run, judge, extraction),
         Task::Inspect => run_inspect(run, inspection_form(reporting)),
         Task::Counters => run_counters(run, judge, notation),
         Task::Carry => run_extract(run, judge, carrying()),
+    }
+}
+
+/// What a review reports beside its report: all of one night where the first counters are given, and what is missing
+/// where it is to be whole.
+pub fn beside_of<'c>(
+    reporting: Reporting,
+    first: Option<&'c [Counter]>,
+    counters: Option<&'c [Counter]>,
+) -> Beside<'c>
+    ensures { (known : Option (List (List ℕ))) (says : Answers)
+        → reviewing_beside reporting.form reporting.detail result known says
+        ≡ review_of says reporting known (given first.entry) (given counters.entry) }
+{
+    match first {
+        Some(first) => Beside::Night {
+            first,
+            second: counters,
+        },
+        None if reporting.whole => Beside::Missing { up_to: counters },
+        None => Beside::Nothing,
     }
 }
 

@@ -2,7 +2,7 @@
 use super::Explanation;
 
 /// The numbers that a refusal prints.
-pub static REFUSALS: [Explanation; 32] = [
+pub static REFUSALS: [Explanation; 33] = [
     Explanation {
         code: "F1",
         text: "F1 OFFSET: the octet there can't stand in the length of a frame. A length begins with 1 to 9, goes on \
@@ -59,6 +59,13 @@ pub static REFUSALS: [Explanation; 32] = [
         code: "A4",
         text: "There wasn't enough memory for the answers. Give the program more memory, or leave out lines that \
             answer no question of ssign questions.",
+    },
+    Explanation {
+        code: "Q1",
+        text: "The file of --ask can't be made or opened, is a folder, or writing the questions to it failed: the disk \
+            is full, for example, or whoever reads the pipe has ended. No report was written. The file may hold the \
+            beginning of the questions; they are whole only with their last line, end. See that the path is right and \
+            that there is room, and run again.",
     },
     Explanation {
         code: "C1",

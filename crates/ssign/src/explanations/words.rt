@@ -162,7 +162,8 @@ pub static WORDS: [Explanation; 46] = [
     Explanation {
         code: "end",
         text: "Always the last line: how many messages were read, blocks included; of ssign counters, how many lines \
-            count stand before it. Output without this line is incomplete: don't use it.",
+            count stand before it; of the questions of ssign review --ask, the word alone. Output without this line is \
+            incomplete: don't use it.",
     },
     Explanation {
         code: "joined",

@@ -4,11 +4,9 @@ ghost use Rattle.ss_frame.specs.Watched.{has_failed, sink_of};
 ghost use Rattle.ssign.specs.Orders.{EndsExplaining};
 ghost use Rattle.ssign.specs.Refusal.{is_failed_write};
 
-use crate::command_line::given_code;
+use crate::command_line::{asks_for_json, given_code};
 use crate::explain::explained;
 use crate::explanations::Tables;
-use crate::flags::is_given;
-use crate::options::JSON;
 use crate::refusal::Refusal;
 use clap::ArgMatches;
 use ss_frame::Watched;
@@ -34,12 +32,7 @@ pub fn run_explain<W: Write>(
         (sink_of W.contents writer.old) (sink_of W.contents writer.new) result }
     ensures untouched { IfErr result (λ refusal. is_failed_write refusal ≡ false → writer.new ≡ writer.old) }
 {
-    let text = explained(
-        alloc,
-        tables,
-        is_given(options, JSON.name),
-        given_code(options),
-    )?;
+    let text = explained(alloc, tables, asks_for_json(options), given_code(options))?;
     match write_whole(writer, &text) {
         Ok(()) => Ok(Verdict::Clean),
         Err(fault) => Err(Refusal::Run(fault)),
