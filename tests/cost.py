@@ -52,9 +52,10 @@ MOST = 2.3
 SLACK = {"steps": 3000, "calls": 40, "peak": 4096, "moved": 4096, "taken": 4096, "passed": 0}
 # of the C library: so an instruction that copies many octets by itself doesn't count as one step for each
 TUNED = {"GLIBC_TUNABLES": "glibc.cpu.x86_rep_movsb_threshold=1000000000:glibc.cpu.x86_rep_stosb_threshold=1000000000"}
-# the most octets that are taken at one time: two buffers and the command line, one buffer more for a file that an option
-# names, and so many more for each octet that is read or written
-ROOM, ROOM_OF_FILE, ROOM_FOR_EACH = 152 << 10, 1 << 16, 24
+# the most octets that are taken at one time: two buffers, of which that of standard output is made before the command line
+# is read, and the command line; one buffer more for a file that an option names, and so many more for each octet that is
+# read or written
+ROOM, ROOM_OF_FILE, ROOM_FOR_EACH = 168 << 10, 1 << 16, 24
 # the same of all that is ever taken
 SPENT, SPENT_FOR_EACH = 512 << 10, 40
 # how much one read asks for
