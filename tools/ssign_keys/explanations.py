@@ -41,7 +41,7 @@ def explanations(program: str) -> Dict[str, str]:
 
 
 def explained(program: str, code: str) -> str:
-    """What the program says of a code; nothing where it says nothing."""
+    """The text of the program on a code; an empty one where it has none."""
     return explanations(program).get(code, "")
 
 

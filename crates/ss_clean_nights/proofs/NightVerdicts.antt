@@ -25,9 +25,9 @@ use Rattle.ss_review.specs.report.Report.{report}
 use Rattle.ss_review.specs.report.Verdict.{is_clean, is_joined, is_listed, is_none}
 use Rattle.ss_review.specs.sessions.Verified.{Answers}
 use Rattle.ss_between.specs.Between.{NumberRun, SessionBetween, session_between, absent_left}
-use Rattle.ss_report.specs.declared.lines.detail.Detail.TheVariants as details
+use Rattle.ss_report.specs.declared.lines.detail.Listing.TheVariants as listings
 use Rattle.ss_report.specs.declared.verdict.verdict.Verdict.TheVariants as verdicts
-use Rattle.ss_report.specs.lines.Lines.{UnlistedLine, RefusedLine, EndLine, entry_line, group_lines, session_lines, damage_line, ending_lines, spoilt_place_line, tail_lines, single_lines, other_lines}
+use Rattle.ss_report.specs.lines.Lines.{itemized, UnlistedLine, RefusedLine, EndLine, entry_line, group_lines, session_lines, damage_line, ending_lines, spoilt_place_line, tail_lines, single_lines, other_lines}
 use Rattle.ss_report.specs.lines.Settled.{is_settled}
 use Rattle.ss_report.specs.lines.Whole.{absent_lines, missing_line, shortfall_lines, tail_line}
 use Rattle.ss_report.specs.lines.Between as between
@@ -53,16 +53,16 @@ settled_entries s g (entry.Hole first last ∷ es) = refl
 abbrev are_listed : GroupReport → Bool
 are_listed g = list_all is_listed g.entries
 
-settled_groups : (s : Session) (gs : List GroupReport) → list_all is_settled (flat_map (group_lines details.Itemized s) gs) ≡ list_all are_listed gs
+settled_groups : (s : Session) (gs : List GroupReport) → list_all is_settled (flat_map (group_lines itemized s) gs) ≡ list_all are_listed gs
 settled_groups s [] = refl
 settled_groups s (g ∷ gs) =
-    list_all-append is_settled (map (entry_line s g.group) g.entries) (flat_map (group_lines details.Itemized s) gs)
+    list_all-append is_settled (map (entry_line s g.group) g.entries) (flat_map (group_lines itemized s) gs)
     ∙ (λ i. settled_entries s g.group g.entries i && settled_groups s gs i)
 
 abbrev is_whole : SessionReport → Bool
 is_whole s = is_joined s.state && list_all are_listed s.groups
 
-settled_session : (s : SessionReport) → list_all is_settled (session_lines details.Itemized s) ≡ is_whole s
+settled_session : (s : SessionReport) → list_all is_settled (session_lines itemized s) ≡ is_whole s
 settled_session s = ap (λ b. is_joined s.state && b) (settled_groups s.session s.groups)
 
 settled_early : (s : Session) (rs : List NumberRun) → list_all is_settled (map (early_line s) rs) ≡ is_none rs
@@ -89,10 +89,10 @@ settled_short f =
 abbrev is_settled_night : SessionBetween → Bool
 is_settled_night b = ((is_whole b.report && is_none b.early) && is_none b.beyond) && (is_none b.short.tails && is_none b.short.blocks)
 
-settled_night : (b : SessionBetween) → list_all is_settled (night_lines details.Itemized b) ≡ is_settled_night b
+settled_night : (b : SessionBetween) → list_all is_settled (night_lines itemized b) ≡ is_settled_night b
 settled_night b =
     let s = b.report.session in
-    let own = session_lines details.Itemized b.report in
+    let own = session_lines itemized b.report in
     let early = map (early_line s) b.early in
     let beyond = map (beyond_line s) b.beyond in
     list_all-append is_settled ((own ++ early) ++ beyond) (shortfall_lines b.short)
@@ -101,10 +101,10 @@ settled_night b =
     ∙ (λ i. ((settled_session b.report i && settled_early s b.early i) && is_none b.beyond) && (is_none b.short.tails && is_none b.short.blocks))
 
 settled_nights : (first : List Counter) (second : Option (List Counter)) (ps : List (SessionReport × Shortfall))
-    → list_all is_settled (flat_map (lines_of_night details.Itemized (Some first) second) ps) ≡ list_all is_settled_night (map (session_between first second) ps)
+    → list_all is_settled (flat_map (lines_of_night itemized (Some first) second) ps) ≡ list_all is_settled_night (map (session_between first second) ps)
 settled_nights first second [] = refl
 settled_nights first second (p ∷ ps) =
-    list_all-append is_settled (lines_of_night details.Itemized (Some first) second p) (flat_map (lines_of_night details.Itemized (Some first) second) ps)
+    list_all-append is_settled (lines_of_night itemized (Some first) second p) (flat_map (lines_of_night itemized (Some first) second) ps)
     ∙ (λ i. settled_night (session_between first second p) i && settled_nights first second ps i)
 
 -- ---- the other lines
@@ -133,7 +133,7 @@ settled_tail : (tail : Tail) (count : ℕ) → list_all is_settled (tail_lines t
 settled_tail tails.Clean count = refl
 settled_tail (tails.Torn pos) count = refl
 
-settled_end : (ending : Ending) (count : ℕ) → list_all is_settled (ending_lines details.Itemized ending ++ EndLine count ∷ []) ≡ is_clean_ending ending
+settled_end : (ending : Ending) (count : ℕ) → list_all is_settled (ending_lines listings.Itemized ending ++ EndLine count ∷ []) ≡ is_clean_ending ending
 settled_end ending count =
     ap (list_all is_settled) (append_assoc (map damage_line ending.damaged) (tail_lines ending.tail) (EndLine count ∷ []))
     ∙ list_all-append is_settled (map damage_line ending.damaged) (tail_lines ending.tail ++ EndLine count ∷ [])
@@ -142,27 +142,27 @@ settled_end ending count =
 abbrev is_settled_rest : Report → Ending → Bool
 is_settled_rest r ending = ((is_none r.unlisted && is_none r.refused) && is_none r.spoilt) && is_clean_ending ending
 
-settled_single : (r : Report) → list_all is_settled (single_lines details.Itemized r) ≡ ((is_none r.unlisted && is_none r.refused) && is_none r.spoilt)
+settled_single : (r : Report) → list_all is_settled (single_lines listings.Itemized r) ≡ ((is_none r.unlisted && is_none r.refused) && is_none r.spoilt)
 unfolding single_lines
 settled_single r =
     list_all-append is_settled (map UnlistedLine r.unlisted ++ map RefusedLine r.refused) (map spoilt_place_line r.spoilt)
     ∙ (λ i. list_all-append is_settled (map UnlistedLine r.unlisted) (map RefusedLine r.refused) i && settled_spoilt r.spoilt i)
     ∙ (λ i. (settled_unlisted r.unlisted i && settled_refused r.refused i) && is_none r.spoilt)
 
-settled_others : (r : Report) (ending : Ending) → list_all is_settled (other_lines details.Itemized r ending) ≡ is_settled_rest r ending
+settled_others : (r : Report) (ending : Ending) → list_all is_settled (other_lines itemized r ending) ≡ is_settled_rest r ending
 unfolding other_lines
 settled_others r ending =
-    list_all-append is_settled (single_lines details.Itemized r) (ending_lines details.Itemized ending ++ EndLine r.count ∷ [])
+    list_all-append is_settled (single_lines listings.Itemized r) (ending_lines listings.Itemized ending ++ EndLine r.count ∷ [])
     ∙ (λ i. settled_single r i && settled_end ending r.count i)
 
 settled_all : (first : List Counter) (second : Option (List Counter)) (r : Report) (short : LogShortfalls) (ending : Ending)
-    → list_all is_settled (lines_between details.Itemized (Some first) second r short ending)
+    → list_all is_settled (lines_between itemized (Some first) second r short ending)
     ≡ ((list_all is_settled_night (map (session_between first second) (zip r.sessions short.known)) && is_none (absent_left first short.absent)) && is_settled_rest r ending)
 unfolding lines_between
 settled_all first second r short ending =
-    let nights = flat_map (lines_of_night details.Itemized (Some first) second) (zip r.sessions short.known) in
+    let nights = flat_map (lines_of_night itemized (Some first) second) (zip r.sessions short.known) in
     let absent = flat_map absent_lines (absent_left first short.absent) in
-    list_all-append is_settled (nights ++ absent) (other_lines details.Itemized r ending)
+    list_all-append is_settled (nights ++ absent) (other_lines itemized r ending)
     ∙ (λ i. list_all-append is_settled nights absent i && settled_others r ending i)
     ∙ (λ i. (settled_nights first second (zip r.sessions short.known) i && settled_absent (absent_left first short.absent) i) && is_settled_rest r ending)
 
@@ -264,7 +264,7 @@ module _ (says : Answers) (log : List (List ℕ)) (first : List Counter) (second
   verdict_is : between_verdict says first second log ending ≡ verdict_of settled
   unfolding night_report
   verdict_is =
-      ap (λ cs. verdict_of (list_all is_settled (lines_between details.Itemized (Some first) second r (shortfalls_of says log cs) ending))) (same_end second)
+      ap (λ cs. verdict_of (list_all is_settled (lines_between itemized (Some first) second r (shortfalls_of says log cs) ending))) (same_end second)
       ∙ ap verdict_of (settled_all first second r (shortfalls_of says log (end_counters second)) ending)
 
   there : between_verdict says first second log ending ≡ verdicts.Clean → IsCleanNight r n × (ending.damaged ≡ []) × (ending.tail ≡ tails.Clean)

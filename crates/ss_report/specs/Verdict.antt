@@ -6,8 +6,7 @@ use Rattle.ss_frame.specs.declared.step.Tail.TheVariants as tails
 use Rattle.ss_review.specs.declared.report.report.Report.{Report}
 use Rattle.ss_review.specs.report.Verdict.{is_none}
 use Rattle.ss_report.specs.declared.log.ending.Ending.{Ending}
-use Rattle.ss_report.specs.declared.lines.detail.Detail.TheVariants as details
-use Rattle.ss_report.specs.lines.Lines.{ReportLine, lines}
+use Rattle.ss_report.specs.lines.Lines.{ReportLine, itemized, lines}
 use Rattle.ss_report.specs.lines.Settled.{is_settled}
 use Rattle.ss_report.specs.declared.verdict.verdict.Verdict.{Verdict}
 use Rattle.ss_report.specs.declared.verdict.verdict.Verdict.TheVariants as verdicts
@@ -34,4 +33,4 @@ lines_verdict ls = verdict_of (list_all is_settled ls)
 
 -- clean where no line of the report on a log with this ending leaves anything to look into
 abbrev pub report_verdict : Report → Ending → Verdict
-report_verdict report ending = lines_verdict (lines details.Itemized report ending)
+report_verdict report ending = lines_verdict (lines itemized report ending)

@@ -3,6 +3,7 @@ pub mod Lines
 pub mod Taken
 pub mod Settled
 pub mod Listed
+pub mod Order
 pub mod Whole
 pub mod Between
 pub mod Records

@@ -17,7 +17,7 @@ mod verdict;
 pub use fault::RunFault;
 pub use forms::inspection_form::InspectionForm;
 pub use forms::report_form::ReportForm;
-pub use lines::detail::Detail;
+pub use lines::detail::{Detail, Listing};
 pub use log::ending::{Damage, Damages, Ending};
 pub use log::log::{Log, read_log};
 pub use log::output::{end_text, write_whole};

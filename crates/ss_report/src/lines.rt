@@ -5,6 +5,7 @@ pub(crate) mod left;
 pub(crate) mod line;
 pub(crate) mod listed;
 pub(crate) mod missing;
+pub(crate) mod order;
 pub(crate) mod others;
 pub(crate) mod outside;
 pub(crate) mod record;

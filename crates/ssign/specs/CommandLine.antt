@@ -24,7 +24,8 @@ use Rattle.ssign.specs.Options.{signing_rules, text_rule, words_rule}
 use Rattle.ss_report.specs.declared.forms.report_form.ReportForm.{ReportForm}
 use Rattle.ss_report.specs.declared.forms.report_form.ReportForm.TheVariants as forms
 use Rattle.ss_report.specs.declared.lines.detail.Detail.{Detail}
-use Rattle.ss_report.specs.declared.lines.detail.Detail.TheVariants as details
+use Rattle.ss_report.specs.declared.lines.detail.Listing.{Listing}
+use Rattle.ss_report.specs.declared.lines.detail.Listing.TheVariants as listings
 use Rattle.ss_report.specs.declared.log.read_options.ReadOptions.{ReadOptions}
 use Rattle.ss_report.specs.declared.payloads.Payloads.{Payloads}
 use Rattle.ss_report.specs.declared.payloads.Payloads.TheVariants as payloads
@@ -64,9 +65,15 @@ report_form false true = forms.Json
 report_form true true = forms.JsonFindings
 
 -- whether a report lists each item or tallies, without or with `--tally`
-abbrev pub detail_of : Bool → Detail
-detail_of true = details.Tally
-detail_of false = details.Itemized
+abbrev pub listing_of : Bool → Listing
+listing_of true = listings.Tally
+listing_of false = listings.Itemized
+
+-- what a report lists, and what it takes for a finding besides, with or without `--tally`, `--in-order` and
+-- `--not-empty`
+abbrev pub detail_of : (tally in_order not_empty : Bool) → Detail
+detail_of tally in_order not_empty =
+    record { listing = listing_of tally; in_order = in_order; not_empty = not_empty }
 
 -- how often a payload is written, with or without `--once`
 abbrev pub payloads_of : Bool → Payloads
@@ -74,12 +81,12 @@ payloads_of true = payloads.Once
 payloads_of false = payloads.InEach
 
 -- how a log is reported, with or without these flags, `--whole`, which counters of a night's beginning or end ask for
--- too, `--tally`, `--once` and `--unwrap`
-abbrev pub reporting : (findings json whole tally once unwrap : Bool) → Reporting
-reporting findings json whole tally once unwrap = record {
+-- too, `--once` and `--unwrap`
+abbrev pub reporting : (findings json whole : Bool) → Detail → (once unwrap : Bool) → Reporting
+reporting findings json whole detail once unwrap = record {
   form = report_form findings json;
   whole = whole;
-  detail = detail_of tally;
+  detail = detail;
   payloads = payloads_of once;
   unwrap = unwrap;
 }
@@ -119,8 +126,9 @@ name_of Explain = codes "explain"
 abbrev pub own_rules : Order → List Rule
 own_rules (Log Review) =
     text_rule (codes "answers") ∷ text_rule (codes "ask") ∷ flag_rule (codes "findings") ∷ flag_rule (codes "json")
-    ∷ flag_rule (codes "whole") ∷ flag_rule (codes "tally") ∷ text_rule (codes "counters") ∷ text_rule (codes "from")
-    ∷ text_rule (codes "pinned") ∷ flag_rule (codes "salvage") ∷ []
+    ∷ flag_rule (codes "whole") ∷ flag_rule (codes "tally") ∷ flag_rule (codes "in-order") ∷ flag_rule (codes "not-empty")
+    ∷ text_rule (codes "counters") ∷ text_rule (codes "from") ∷ text_rule (codes "pinned") ∷ flag_rule (codes "salvage")
+    ∷ []
 own_rules (Log Questions) =
     flag_rule (codes "json") ∷ flag_rule (codes "once") ∷ text_rule (codes "pinned") ∷ flag_rule (codes "salvage") ∷ []
 own_rules (Log Extract) =

@@ -5,6 +5,7 @@ ghost use Rattle.std.specs.Option.{SomeIff, is_some};
 ghost use Rattle.clap.specs.Words.{App, app_of, first_value, found_of, kind_of, matched_of, new_app, raw_values};
 ghost use Rattle.ss_frame.specs.Limits.{InRange};
 ghost use Rattle.ssign.specs.CommandLine.{HasNumber, IsLocalApp, bare_app, detail_of, form_of, is_given, limits_with};
+ghost use Rattle.ssign.specs.CommandLine.{listing_of};
 ghost use Rattle.ssign.specs.CommandLine.{name_of, order_app, order_in, own_rules, payloads_of, reading, report_form};
 ghost use Rattle.ssign.specs.CommandLine.{reporting, shared_rules, ssign_app, text_of, with_commands, with_rules};
 ghost use Rattle.ssign.specs.Explanation.{asked_of};
@@ -24,7 +25,7 @@ use clap::error::ErrorKind;
 use clap::{ArgMatches, Command, Error};
 use ss_block::versions;
 use ss_frame::{Form, Limits};
-use ss_report::{Detail, Payloads, ReadOptions, ReportForm};
+use ss_report::{Detail, Listing, Payloads, ReadOptions, ReportForm};
 use std::alloc::{AllocError, Global};
 
 /// The version of the program.
@@ -329,13 +330,25 @@ fn form_of_report(matches: &ArgMatches<'_>) -> ReportForm
 }
 
 /// Whether the flag asks for tallies. A command without it lists each item.
-fn detail_of_report(matches: &ArgMatches<'_>) -> Detail
-    ensures { result ≡ detail_of (is_given matches.now (codes "tally")) }
+fn listing_of_report(matches: &ArgMatches<'_>) -> Listing
+    ensures { result ≡ listing_of (is_given matches.now (codes "tally")) }
 {
     if is_given(matches, options::TALLY.name) {
-        Detail::Tally
+        Listing::Tally
     } else {
-        Detail::Itemized
+        Listing::Itemized
+    }
+}
+
+/// What a report lists, and what it takes for a finding besides.
+fn detail_of_report(matches: &ArgMatches<'_>) -> Detail
+    ensures { result ≡ detail_of (is_given matches.now (codes "tally")) (is_given matches.now (codes "in-order"))
+        (is_given matches.now (codes "not-empty")) }
+{
+    Detail {
+        listing: listing_of_report(matches),
+        in_order: is_given(matches, options::IN_ORDER.name),
+        not_empty: is_given(matches, options::NOT_EMPTY.name),
     }
 }
 
@@ -355,8 +368,10 @@ fn payloads_of_questions(matches: &ArgMatches<'_>) -> Payloads
 pub fn reporting_of(matches: &ArgMatches<'_>) -> Reporting
     ensures { result ≡ reporting (is_given matches.now (codes "findings")) (is_given matches.now (codes "json"))
         (is_given matches.now (codes "whole") || is_some (first_value (found_of matches.now) (codes "counters"))
-        || is_some (first_value (found_of matches.now) (codes "from"))) (is_given matches.now (codes "tally"))
-        (is_given matches.now (codes "once")) (is_given matches.now (codes "unwrap")) }
+        || is_some (first_value (found_of matches.now) (codes "from")))
+        (detail_of (is_given matches.now (codes "tally")) (is_given matches.now (codes "in-order"))
+        (is_given matches.now (codes "not-empty"))) (is_given matches.now (codes "once"))
+        (is_given matches.now (codes "unwrap")) }
 {
     Reporting {
         form: form_of_report(matches),

@@ -1,8 +1,9 @@
 //! The commands: a row for each.
 use crate::options::{
     AHEAD, ANSWERS, ANSWERS_SEALED, ASK, CODE, COUNTERS as COUNTERS_FILE, FINDINGS, FINDINGS_PLAIN,
-    FROM, JSON, JSON_EXPLAINED, LINES_OUT, ONCE, OptionRow, PINNED, PLACE, READING, RESUME,
-    SALVAGE, SALVAGE_REPORTED, SIGNING, TALLY, UNLISTED, UNWRAP, UNWRAP_SHOWN, WHOLE, WRAP,
+    FROM, IN_ORDER, JSON, JSON_EXPLAINED, LINES_OUT, NOT_EMPTY, ONCE, OptionRow, PINNED, PLACE,
+    READING, RESUME, SALVAGE, SALVAGE_REPORTED, SIGNING, TALLY, UNLISTED, UNWRAP, UNWRAP_SHOWN,
+    WHOLE, WRAP,
 };
 
 /// What the help of a command has of its own.
@@ -41,6 +42,8 @@ pub const REVIEW: CommandRow = CommandRow {
         JSON,
         WHOLE,
         TALLY,
+        IN_ORDER,
+        NOT_EMPTY,
         COUNTERS_FILE,
         FROM,
         PINNED,

@@ -132,6 +132,21 @@ pub const TALLY: OptionRow = OptionRow {
     ..FLAG
 };
 
+/// `--in-order`: the order of the listed messages is looked at too.
+pub const IN_ORDER: OptionRow = OptionRow {
+    name: "in-order",
+    help: "Also reports each group whose listed messages don't stand in the order of their numbers; each such line is \
+        a finding",
+    ..FLAG
+};
+
+/// `--not-empty`: a log without a message is a finding.
+pub const NOT_EMPTY: OptionRow = OptionRow {
+    name: "not-empty",
+    help: "Also reports that the log has no message, if that is so; this line is a finding",
+    ..FLAG
+};
+
 /// `--counters`: the file of how far the signature blocks reach (RFC 5848, sections 4.2.4 and 4.2.5).
 pub const COUNTERS: OptionRow = OptionRow {
     name: "counters",

@@ -97,7 +97,7 @@ pub fn run_words<'a, R: Eprint + Screen + Clock + AllocGlobal, F: GivenFiles, I:
     run_command(rt, files, input, writer, tables, &matches)
 }
 
-/// What `clap` makes of the words, or what is told of them.
+/// What `clap` makes of the words of the command line, or what is printed where it finds a fault in them.
 fn parsed<'a>(alloc: Global, words: &'a [String]) -> Result<ArgMatches<'a>, Outcome<'a>>
     ensures { IsParsed (map string_bytes words.entry.now) result }
 {

@@ -42,7 +42,7 @@ pub struct Reporting {
     /// Whether a review reports what is missing beside the report: signature blocks below the greatest stored GBC of a
     /// session, and all up to the counters that were kept.
     pub whole: bool,
-    /// Whether a review lists each item, or tallies.
+    /// What a review lists, and what it takes for a finding besides.
     pub detail: Detail,
     /// Whether questions have each payload in each question about it, or once.
     pub payloads: Payloads,

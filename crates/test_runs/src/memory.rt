@@ -11,8 +11,8 @@ use ss_frame::{Limits, Watched};
 use ss_message::Field;
 use ss_octets::Bytes;
 use ss_report::{
-    Beside, Detail, Notation, ReadOptions, ReportForm, Run, RunFault, Verdict, run_counters,
-    run_review_as,
+    Beside, Detail, Listing, Notation, ReadOptions, ReportForm, Run, RunFault, Verdict,
+    run_counters, run_review_as,
 };
 use ss_review::{
     AskedSessions, Counter, Counts, Entry, Question, Questioner, Questions, Report, ReviewFault,
@@ -331,10 +331,13 @@ fn make(alloc: Global, kind: Kind) -> Result<Done, AllocError> {
         alloc,
     };
     let form = ReportForm::Text;
-    let each = Detail::Itemized;
+    let each = Detail::of(Listing::Itemized);
     let said = match kind {
         Kind::Counters => run_counters(run, Yes, Notation::Plain),
-        Kind::Tally => run_review_as(run, Yes, form, Detail::Tally, Beside::Nothing),
+        Kind::Tally => {
+            let counted = Detail::of(Listing::Tally);
+            run_review_as(run, Yes, form, counted, Beside::Nothing)
+        }
         Kind::Whole => {
             let up_to = Some(sent.as_slice());
             run_review_as(run, Yes, form, each, Beside::Missing { up_to })

@@ -10,8 +10,8 @@ use ss_frame::{Form, Watched};
 use ss_message::Field;
 use ss_octets::Bytes;
 use ss_report::{
-    Beside, Detail, Extraction, Notation, Payloads, ReadOptions, ReportForm, Run, RunFault,
-    Selection, Verdict, run_counters, run_extract, run_questions, run_review_as,
+    Beside, Detail, Extraction, Listing, Notation, Payloads, ReadOptions, ReportForm, Run,
+    RunFault, Selection, Verdict, run_counters, run_extract, run_questions, run_review_as,
 };
 use ss_review::{Counter, Counts, Verifier};
 use std::alloc::{AllocError, Global};
@@ -484,7 +484,7 @@ fn run_by<R: Read, W: Write>(
     let check = |payload: &[u8], octets: &[u8], sign: &[u8]| book.accepts(payload, octets, sign);
     let verifier = Verifier::new(book, trust, check);
     let form = ReportForm::Text;
-    let detail = Detail::Itemized;
+    let detail = Detail::of(Listing::Itemized);
     let (before, sent) = night;
     match job {
         Job::Review => run_review_as(run, verifier, form, detail, Beside::Nothing),

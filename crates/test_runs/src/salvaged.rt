@@ -2,9 +2,9 @@
 use crate::book::{Yes, no_counters};
 use ss_frame::{Form, FrameFault, Limits, Watched};
 use ss_report::{
-    Beside, Detail, Extraction, InspectionForm, Notation, Payloads, ReadOptions, ReportForm, Run,
-    RunFault, Selection, Verdict, run_counters, run_extract, run_inspect, run_questions,
-    run_review_as,
+    Beside, Detail, Extraction, InspectionForm, Listing, Notation, Payloads, ReadOptions,
+    ReportForm, Run, RunFault, Selection, Verdict, run_counters, run_extract, run_inspect,
+    run_questions, run_review_as,
 };
 use ss_review::{Counter, Places};
 use std::alloc::{AllocError, Global};
@@ -15,7 +15,7 @@ use test_devices::{Paper, Pieces};
 /// Which run.
 #[derive(Clone, Copy, Debug)]
 enum Job {
-    Review(ReportForm, Detail),
+    Review(ReportForm, Listing),
     Whole,
     Night,
     Questions,
@@ -63,24 +63,24 @@ const LOGS: [(&[u8], &[u8]); 8] = [
 /// Runs over `ONE_BETWEEN`, and what they write.
 const RUNS: [(Job, &[u8]); 15] = [
     (
-        Job::Review(ReportForm::Text, Detail::Itemized),
+        Job::Review(ReportForm::Text, Listing::Itemized),
         b"unlisted 0\nunlisted 1\ndamaged 1 22 1\nend 2\n",
     ),
     (
-        Job::Review(ReportForm::Findings, Detail::Itemized),
+        Job::Review(ReportForm::Findings, Listing::Itemized),
         b"unlisted 0\nunlisted 1\ndamaged 1 22 1\nend 2\n",
     ),
     (
-        Job::Review(ReportForm::Json, Detail::Itemized),
+        Job::Review(ReportForm::Json, Listing::Itemized),
         b"{\"line\":\"unlisted\",\"place\":0}\n{\"line\":\"unlisted\",\"place\":1}\n\
           {\"line\":\"damaged\",\"place\":1,\"offset\":22,\"length\":1}\n{\"line\":\"end\",\"count\":2}\n",
     ),
     (
-        Job::Review(ReportForm::Text, Detail::Tally),
+        Job::Review(ReportForm::Text, Listing::Tally),
         b"unlisted-count 2\nrefused-count 0\nspoilt-count 0\ndamaged-count 1 1\nend 2\n",
     ),
     (
-        Job::Review(ReportForm::Json, Detail::Tally),
+        Job::Review(ReportForm::Json, Listing::Tally),
         b"{\"line\":\"unlisted-count\",\"count\":2}\n{\"line\":\"refused-count\",\"count\":0}\n\
           {\"line\":\"spoilt-count\",\"count\":0}\n{\"line\":\"damaged-count\",\"count\":1,\"octets\":1}\n\
           {\"line\":\"end\",\"count\":2}\n",
@@ -161,9 +161,11 @@ fn make(
         alloc,
     };
     let text = ReportForm::Text;
-    let each = Detail::Itemized;
+    let each = Detail::of(Listing::Itemized);
     let said = match job {
-        Job::Review(form, detail) => run_review_as(run, Yes, form, detail, Beside::Nothing),
+        Job::Review(form, listing) => {
+            run_review_as(run, Yes, form, Detail::of(listing), Beside::Nothing)
+        }
         Job::Whole => {
             let up_to = None;
             run_review_as(run, Yes, text, each, Beside::Missing { up_to })

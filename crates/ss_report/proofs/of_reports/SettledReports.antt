@@ -31,8 +31,8 @@ use Rattle.ss_review.specs.report.Verdict.{is_clean, is_joined, is_listed, is_no
 use Rattle.ss_review.specs.sessions.Sessions.{sessions}
 use Rattle.ss_review.specs.sessions.Verified.{Answers}
 use Rattle.ss_between.specs.Between.{beyond}
-use Rattle.ss_report.specs.declared.lines.detail.Detail.TheVariants as details
-use Rattle.ss_report.specs.lines.Lines.{UnlistedLine, RefusedLine, EndLine, entry_line, group_lines, session_lines, damage_line, ending_lines, spoilt_place_line, tail_lines, single_lines, other_lines, lines}
+use Rattle.ss_report.specs.declared.lines.detail.Listing.TheVariants as listings
+use Rattle.ss_report.specs.lines.Lines.{UnlistedLine, RefusedLine, EndLine, itemized, entry_line, group_lines, session_lines, damage_line, ending_lines, spoilt_place_line, tail_lines, single_lines, other_lines, lines}
 use Rattle.ss_report.specs.lines.Settled.{is_settled}
 use Rattle.ss_report.specs.lines.Whole.{absent_lines, missing_line, shortfall_lines, tail_line}
 use Rattle.ss_report.specs.lines.Between.{lines_between, lines_of_night, whole_verdict_by}
@@ -52,22 +52,22 @@ settled_entries s g (entry.Hole first last ∷ es) = refl
 abbrev are_listed : GroupReport → Bool
 are_listed g = list_all is_listed g.entries
 
-settled_groups : (s : Session) (gs : List GroupReport) → list_all is_settled (flat_map (group_lines details.Itemized s) gs) ≡ list_all are_listed gs
+settled_groups : (s : Session) (gs : List GroupReport) → list_all is_settled (flat_map (group_lines itemized s) gs) ≡ list_all are_listed gs
 settled_groups s [] = refl
 settled_groups s (g ∷ gs) =
-    list_all-append is_settled (map (entry_line s g.group) g.entries) (flat_map (group_lines details.Itemized s) gs)
+    list_all-append is_settled (map (entry_line s g.group) g.entries) (flat_map (group_lines itemized s) gs)
     ∙ (λ i. settled_entries s g.group g.entries i && settled_groups s gs i)
 
 abbrev is_whole : SessionReport → Bool
 is_whole s = is_joined s.state && list_all are_listed s.groups
 
-settled_session : (s : SessionReport) → list_all is_settled (session_lines details.Itemized s) ≡ is_whole s
+settled_session : (s : SessionReport) → list_all is_settled (session_lines itemized s) ≡ is_whole s
 settled_session s = ap (λ b. is_joined s.state && b) (settled_groups s.session s.groups)
 
-settled_sessions : (ss : List SessionReport) → list_all is_settled (flat_map (session_lines details.Itemized) ss) ≡ list_all is_whole ss
+settled_sessions : (ss : List SessionReport) → list_all is_settled (flat_map (session_lines itemized) ss) ≡ list_all is_whole ss
 settled_sessions [] = refl
 settled_sessions (s ∷ ss) =
-    list_all-append is_settled (session_lines details.Itemized s) (flat_map (session_lines details.Itemized) ss)
+    list_all-append is_settled (session_lines itemized s) (flat_map (session_lines itemized) ss)
     ∙ (λ i. settled_session s i && settled_sessions ss i)
 
 settled_unlisted : (ps : List ℕ) → list_all is_settled (map UnlistedLine ps) ≡ is_none ps
@@ -90,30 +90,30 @@ settled_tail : (tail : Tail) (count : ℕ) → list_all is_settled (tail_lines t
 settled_tail tails.Clean count = refl
 settled_tail (tails.Torn pos) count = refl
 
-settled_end : (ending : Ending) (count : ℕ) → list_all is_settled (ending_lines details.Itemized ending ++ EndLine count ∷ []) ≡ is_clean_ending ending
+settled_end : (ending : Ending) (count : ℕ) → list_all is_settled (ending_lines listings.Itemized ending ++ EndLine count ∷ []) ≡ is_clean_ending ending
 settled_end ending count =
     ap (list_all is_settled) (append_assoc (map damage_line ending.damaged) (tail_lines ending.tail) (EndLine count ∷ []))
     ∙ list_all-append is_settled (map damage_line ending.damaged) (tail_lines ending.tail ++ EndLine count ∷ [])
     ∙ (λ i. settled_damaged ending.damaged i && settled_tail ending.tail count i)
 
-settled_single : (r : Report) → list_all is_settled (single_lines details.Itemized r) ≡ ((is_none r.unlisted && is_none r.refused) && is_none r.spoilt)
+settled_single : (r : Report) → list_all is_settled (single_lines listings.Itemized r) ≡ ((is_none r.unlisted && is_none r.refused) && is_none r.spoilt)
 unfolding single_lines
 settled_single r =
     list_all-append is_settled (map UnlistedLine r.unlisted ++ map RefusedLine r.refused) (map spoilt_place_line r.spoilt)
     ∙ (λ i. list_all-append is_settled (map UnlistedLine r.unlisted) (map RefusedLine r.refused) i && settled_spoilt r.spoilt i)
     ∙ (λ i. (settled_unlisted r.unlisted i && settled_refused r.refused i) && is_none r.spoilt)
 
-settled_others : (r : Report) (ending : Ending) → list_all is_settled (other_lines details.Itemized r ending) ≡ (((is_none r.unlisted && is_none r.refused) && is_none r.spoilt) && is_clean_ending ending)
+settled_others : (r : Report) (ending : Ending) → list_all is_settled (other_lines itemized r ending) ≡ (((is_none r.unlisted && is_none r.refused) && is_none r.spoilt) && is_clean_ending ending)
 unfolding other_lines
 settled_others r ending =
-    list_all-append is_settled (single_lines details.Itemized r) (ending_lines details.Itemized ending ++ EndLine r.count ∷ [])
+    list_all-append is_settled (single_lines listings.Itemized r) (ending_lines listings.Itemized ending ++ EndLine r.count ∷ [])
     ∙ (λ i. settled_single r i && settled_end ending r.count i)
 
 settled_lines : (r : Report) (ending : Ending)
-    → list_all is_settled (lines details.Itemized r ending) ≡ (list_all is_whole r.sessions && (((is_none r.unlisted && is_none r.refused) && is_none r.spoilt) && is_clean_ending ending))
+    → list_all is_settled (lines itemized r ending) ≡ (list_all is_whole r.sessions && (((is_none r.unlisted && is_none r.refused) && is_none r.spoilt) && is_clean_ending ending))
 unfolding lines
 settled_lines r ending =
-    list_all-append is_settled (flat_map (session_lines details.Itemized) r.sessions) (other_lines details.Itemized r ending)
+    list_all-append is_settled (flat_map (session_lines itemized) r.sessions) (other_lines itemized r ending)
     ∙ (λ i. settled_sessions r.sessions i && settled_others r ending i)
 
 verdict_by : (w u r s : Bool) (ending : Ending) → verdict_of (w && (((u && r) && s) && is_clean_ending ending)) ≡ verdict_where (w && u && r && s) ending
@@ -150,21 +150,21 @@ both_by true true c d = refl
 both_by true false true d = refl
 both_by true false false d = refl
 
-settled_night : (s : SessionReport) (f : Shortfall) → list_all is_settled (lines_of_night details.Itemized None None (s, f)) ≡ (is_whole s && is_complete f)
+settled_night : (s : SessionReport) (f : Shortfall) → list_all is_settled (lines_of_night itemized None None (s, f)) ≡ (is_whole s && is_complete f)
 unfolding beyond
 settled_night s f =
-    let own = session_lines details.Itemized s in
+    let own = session_lines itemized s in
     ap (λ ls. list_all is_settled (ls ++ shortfall_lines f)) (append-nil (own ++ []) ∙ append-nil own)
     ∙ list_all-append is_settled own (shortfall_lines f)
     ∙ (λ i. settled_session s i && settled_short f i)
 
 settled_nights : (ss : List SessionReport) (fs : List Shortfall) → length ss ≡ length fs
-    → list_all is_settled (flat_map (lines_of_night details.Itemized None None) (zip ss fs)) ≡ (list_all is_whole ss && list_all is_complete fs)
+    → list_all is_settled (flat_map (lines_of_night itemized None None) (zip ss fs)) ≡ (list_all is_whole ss && list_all is_complete fs)
 settled_nights [] [] e = refl
 settled_nights [] (f ∷ fs) e = absurd (omega (arith, e))
 settled_nights (s ∷ ss) [] e = absurd (omega (arith, e))
 settled_nights (s ∷ ss) (f ∷ fs) e =
-    list_all-append is_settled (lines_of_night details.Itemized None None (s, f)) (flat_map (lines_of_night details.Itemized None None) (zip ss fs))
+    list_all-append is_settled (lines_of_night itemized None None (s, f)) (flat_map (lines_of_night itemized None None) (zip ss fs))
     ∙ (λ i. settled_night s f i && settled_nights ss fs (omega (arith, e)) i)
     ∙ both_by (is_whole s) (is_complete f) (list_all is_whole ss) (list_all is_complete fs)
 
@@ -173,12 +173,12 @@ settled_absent [] = refl
 settled_absent (f ∷ fs) = refl
 
 settled_whole : (r : Report) (short : LogShortfalls) (ending : Ending) → length r.sessions ≡ length short.known
-    → list_all is_settled (lines_between details.Itemized None None r short ending)
+    → list_all is_settled (lines_between itemized None None r short ending)
     ≡ (((list_all is_whole r.sessions && list_all is_complete short.known) && is_none short.absent) && (((is_none r.unlisted && is_none r.refused) && is_none r.spoilt) && is_clean_ending ending))
 unfolding lines_between
 settled_whole r short ending e =
-    let known = flat_map (lines_of_night details.Itemized None None) (zip r.sessions short.known) in
-    list_all-append is_settled (known ++ flat_map absent_lines short.absent) (other_lines details.Itemized r ending)
+    let known = flat_map (lines_of_night itemized None None) (zip r.sessions short.known) in
+    list_all-append is_settled (known ++ flat_map absent_lines short.absent) (other_lines itemized r ending)
     ∙ (λ i. list_all-append is_settled known (flat_map absent_lines short.absent) i && settled_others r ending i)
     ∙ (λ i. (settled_nights r.sessions short.known e i && settled_absent short.absent i) && (((is_none r.unlisted && is_none r.refused) && is_none r.spoilt) && is_clean_ending ending))
 

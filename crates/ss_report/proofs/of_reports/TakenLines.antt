@@ -14,10 +14,10 @@ use Rattle.ss_review.specs.declared.report.group_report.GroupReport.{GroupReport
 use Rattle.ss_review.specs.declared.report.session_report.SessionReport.{SessionReport}
 use Rattle.ss_review.specs.declared.report.report.Report.{Report}
 use Rattle.ss_review.specs.report.Extract.{place_listed, listed_places}
-use Rattle.ss_report.specs.declared.lines.detail.Detail.TheVariants as details
+use Rattle.ss_report.specs.declared.lines.detail.Listing.TheVariants as listings
 use Rattle.ss_report.specs.declared.lines.listed.PlacesSoFar.{PlacesSoFar}
 use Rattle.ss_report.specs.log.Writing.{Writes}
-use Rattle.ss_report.specs.lines.Lines.{ReportLine, UnlistedLine, RefusedLine, EndLine, entry_line, group_lines, session_lines, damage_line, ending_lines, spoilt_place_line, tail_lines, single_lines, other_lines, lines}
+use Rattle.ss_report.specs.lines.Lines.{ReportLine, UnlistedLine, RefusedLine, EndLine, itemized, entry_line, group_lines, session_lines, damage_line, ending_lines, spoilt_place_line, tail_lines, single_lines, other_lines, lines}
 use Rattle.ss_report.specs.lines.Taken.{TakesAll}
 use Rattle.ss_report.specs.lines.Settled.{is_settled}
 use Rattle.ss_report.specs.lines.Listed.{place_in, KeepsPlace}
@@ -71,16 +71,16 @@ of_entries s g (entry.Listed number place ∷ es) = ap (λ xs. place ∷ xs) (of
 of_entries s g (entry.Gap number why ∷ es) = of_entries s g es
 of_entries s g (entry.Hole first last ∷ es) = of_entries s g es
 
-of_groups : (s : Session) (gs : List GroupReport) → filter_map place_in (flat_map (group_lines details.Itemized s) gs) ≡ flat_map (λ g. filter_map place_listed g.entries) gs
+of_groups : (s : Session) (gs : List GroupReport) → filter_map place_in (flat_map (group_lines itemized s) gs) ≡ flat_map (λ g. filter_map place_listed g.entries) gs
 of_groups s [] = refl
 of_groups s (g ∷ gs) =
-    filter_map-append place_in (map (entry_line s g.group) g.entries) (flat_map (group_lines details.Itemized s) gs)
+    filter_map-append place_in (map (entry_line s g.group) g.entries) (flat_map (group_lines itemized s) gs)
     ∙ (λ i. of_entries s g.group g.entries i ++ of_groups s gs i)
 
-of_sessions : (ss : List SessionReport) → filter_map place_in (flat_map (session_lines details.Itemized) ss) ≡ flat_map (λ s. flat_map (λ g. filter_map place_listed g.entries) s.groups) ss
+of_sessions : (ss : List SessionReport) → filter_map place_in (flat_map (session_lines itemized) ss) ≡ flat_map (λ s. flat_map (λ g. filter_map place_listed g.entries) s.groups) ss
 of_sessions [] = refl
 of_sessions (s ∷ ss) =
-    filter_map-append place_in (flat_map (group_lines details.Itemized s.session) s.groups) (flat_map (session_lines details.Itemized) ss)
+    filter_map-append place_in (flat_map (group_lines itemized s.session) s.groups) (flat_map (session_lines itemized) ss)
     ∙ (λ i. of_groups s.session s.groups i ++ of_sessions ss i)
 
 none_unlisted : (ps : List ℕ) → filter_map place_in (map UnlistedLine ps) ≡ []
@@ -103,33 +103,33 @@ none_at_tail : (tail : Tail) (count : ℕ) → filter_map place_in (tail_lines t
 none_at_tail tails.Clean count = refl
 none_at_tail (tails.Torn pos) count = refl
 
-none_at_end : (ending : Ending) (count : ℕ) → filter_map place_in (ending_lines details.Itemized ending ++ EndLine count ∷ []) ≡ []
+none_at_end : (ending : Ending) (count : ℕ) → filter_map place_in (ending_lines listings.Itemized ending ++ EndLine count ∷ []) ≡ []
 none_at_end ending count =
     ap (filter_map place_in) (append_assoc (map damage_line ending.damaged) (tail_lines ending.tail) (EndLine count ∷ []))
     ∙ filter_map-append place_in (map damage_line ending.damaged) (tail_lines ending.tail ++ EndLine count ∷ [])
     ∙ (λ i. none_damaged ending.damaged i ++ none_at_tail ending.tail count i)
 
-none_single : (r : Report) → filter_map place_in (single_lines details.Itemized r) ≡ []
+none_single : (r : Report) → filter_map place_in (single_lines listings.Itemized r) ≡ []
 unfolding single_lines
 none_single r =
     filter_map-append place_in (map UnlistedLine r.unlisted ++ map RefusedLine r.refused) (map spoilt_place_line r.spoilt)
     ∙ (λ i. filter_map-append place_in (map UnlistedLine r.unlisted) (map RefusedLine r.refused) i ++ none_spoilt r.spoilt i)
     ∙ (λ i. (none_unlisted r.unlisted i ++ none_refused r.refused i) ++ [])
 
-none_behind : (r : Report) (ending : Ending) → filter_map place_in (other_lines details.Itemized r ending) ≡ []
+none_behind : (r : Report) (ending : Ending) → filter_map place_in (other_lines itemized r ending) ≡ []
 unfolding other_lines
 none_behind r ending =
-    filter_map-append place_in (single_lines details.Itemized r) (ending_lines details.Itemized ending ++ EndLine r.count ∷ [])
+    filter_map-append place_in (single_lines listings.Itemized r) (ending_lines listings.Itemized ending ++ EndLine r.count ∷ [])
     ∙ (λ i. none_single r i ++ none_at_end ending r.count i)
 
 -- the lines of a report list its messages
-pub places_in_lines : (r : Report) (ending : Ending) → filter_map place_in (lines details.Itemized r ending) ≡ listed_places r
+pub places_in_lines : (r : Report) (ending : Ending) → filter_map place_in (lines itemized r ending) ≡ listed_places r
 unfolding lines
 places_in_lines r ending =
-    filter_map-append place_in (flat_map (session_lines details.Itemized) r.sessions) (other_lines details.Itemized r ending)
+    filter_map-append place_in (flat_map (session_lines itemized) r.sessions) (other_lines itemized r ending)
     ∙ (λ i. of_sessions r.sessions i ++ none_behind r ending i)
     ∙ append-nil (listed_places r)
 
-pub all_kept : (a b : PlacesSoFar) (r : Report) (ending : Ending) → TakesAll KeepsPlace a b (lines details.Itemized r ending) → b.failed ≡ false → a.places.items ≡ [] → b.places.items ≡ listed_places r
+pub all_kept : (a b : PlacesSoFar) (r : Report) (ending : Ending) → TakesAll KeepsPlace a b (lines itemized r ending) → b.failed ≡ false → a.places.items ≡ [] → b.places.items ≡ listed_places r
 all_kept a b r ending taken ready none =
-    (kept_from a b (lines details.Itemized r ending) taken ready).1 ∙ ap (λ xs. xs ++ filter_map place_in (lines details.Itemized r ending)) none ∙ places_in_lines r ending
+    (kept_from a b (lines itemized r ending) taken ready).1 ∙ ap (λ xs. xs ++ filter_map place_in (lines itemized r ending)) none ∙ places_in_lines r ending

@@ -13,13 +13,12 @@ use Rattle.ss_review.specs.counted.KeptLaws.{LogsAreReviewed}
 use Rattle.ss_review.specs.pinned.Stands.{PinnedReportsAreOfLogs, shortfalls_by}
 use Rattle.ss_report.specs.log.Log.{ReadsLog}
 use Rattle.ss_report.specs.declared.lines.detail.Detail.{Detail}
-use Rattle.ss_report.specs.declared.lines.detail.Detail.TheVariants as details
 use Rattle.ss_report.specs.declared.lines.missing.Missing.{Missing}
 use Rattle.ss_report.specs.forms.Forms.{line_as}
 use Rattle.ss_report.specs.declared.forms.report_form.ReportForm.{ReportForm}
 use Rattle.ss_report.specs.declared.verdict.verdict.Verdict.{Verdict}
 use Rattle.ss_report.specs.Verdict.{lines_verdict}
-use Rattle.ss_report.specs.lines.Lines.{ReportLine}
+use Rattle.ss_report.specs.lines.Lines.{ReportLine, itemizing}
 use Rattle.ss_report.specs.lines.Between.{lines_beside, lines_between, lines_by}
 use Rattle.ss_report.specs.declared.runs.beside.Beside.{Beside}
 use Rattle.ss_report.specs.runs.Run.{Makes}
@@ -49,7 +48,7 @@ counted_lines reviewed law known says messages first second up_to r cs of told c
 pub makes_beside : (form : ReportForm) (detail : Detail) (beside : Beside) (known : Option (List (List ℕ))) (says : Answers) (options : ReadOptions) (before after : Source) (messages : List (List ℕ)) (ending : Ending)
     → ReadsLog options before after messages ending → after.failed ≡ false
     → (r : Report) (m : Option Missing) (verdict : Verdict)
-    → ((d : Detail) (e : Ending) → lines_beside d r m e ≡ lines_by known d says beside messages e) → verdict ≡ lines_verdict (lines_beside details.Itemized r m ending)
+    → ((d : Detail) (e : Ending) → lines_beside d r m e ≡ lines_by known d says beside messages e) → verdict ≡ lines_verdict (lines_beside (itemizing detail) r m ending)
     → Makes (reviewing_beside form detail beside known says) options before after (flat_map (line_as form) (lines_beside detail r m ending)) verdict
 makes_beside form detail beside known says options before after messages ending reading no_read_failed r m verdict same judged = record {
   messages = messages;
@@ -58,5 +57,5 @@ makes_beside form detail beside known says options before after messages ending 
   no_read_failed = no_read_failed;
   unrefused = refl;
   output_is = ap (flat_map (line_as form)) (same detail ending);
-  verdict_is = judged ∙ ap lines_verdict (same details.Itemized ending);
+  verdict_is = judged ∙ ap lines_verdict (same (itemizing detail) ending);
 }

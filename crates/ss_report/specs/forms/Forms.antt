@@ -6,9 +6,8 @@ use Rattle.ss_report.specs.declared.forms.report_form.ReportForm.{ReportForm}
 use Rattle.ss_report.specs.declared.forms.report_form.ReportForm.TheVariants as forms
 use Rattle.ss_report.specs.declared.notation.Notation.{Notation}
 use Rattle.ss_report.specs.declared.notation.Notation.TheVariants.{Plain, Json}
-use Rattle.ss_report.specs.declared.lines.detail.Detail.TheVariants as details
 use Rattle.ss_report.specs.records.Written.{written}
-use Rattle.ss_report.specs.lines.Lines.{ReportLine, OkLine, lines}
+use Rattle.ss_report.specs.lines.Lines.{ReportLine, OkLine, itemized, lines}
 use Rattle.ss_report.specs.lines.Records.{record_of}
 
 -- how each line of a form is written
@@ -37,4 +36,4 @@ line_as form line =
 
 -- the text of the report
 abbrev pub report_lines : Report → Ending → List ℕ
-report_lines report ending = flat_map (line_as forms.Text) (lines details.Itemized report ending)
+report_lines report ending = flat_map (line_as forms.Text) (lines itemized report ending)

@@ -23,14 +23,13 @@ use Rattle.ss_between.specs.Between.{session_left, entry_left, tail_left, number
 use Rattle.ss_between.specs.Between.{runs_from}
 use Rattle.ss_report.specs.declared.log.ending.Ending.{Ending}
 use Rattle.ss_report.specs.declared.lines.detail.Detail.{Detail}
-use Rattle.ss_report.specs.declared.lines.detail.Detail.TheVariants as details
 use Rattle.ss_report.specs.declared.lines.missing.Missing.{Missing}
 use Rattle.ss_report.specs.declared.lines.outside.OpenRun.{OpenRun}
 use Rattle.ss_report.specs.declared.lines.outside.Side.{Side}
 use Rattle.ss_report.specs.declared.lines.outside.Side.TheVariants as sides
 use Rattle.ss_report.specs.declared.runs.beside.Beside.{Beside}
 use Rattle.ss_report.specs.declared.runs.beside.Beside.TheVariants as beside
-use Rattle.ss_report.specs.lines.Lines.{ReportLine, EarlyLine, BeyondLine, session_lines, other_lines, lines}
+use Rattle.ss_report.specs.lines.Lines.{ReportLine, EarlyLine, BeyondLine, itemized, session_lines, other_lines, lines}
 use Rattle.ss_report.specs.lines.Taken.{TakesAll}
 use Rattle.ss_report.specs.lines.Whole.{shortfall_lines, absent_lines}
 use Rattle.ss_report.specs.Verdict.{lines_verdict}
@@ -159,13 +158,13 @@ lines_by known detail says (beside.Night first second) messages ending =
 
 abbrev pub whole_verdict_by : Option (List (List ℕ)) → Answers → List Counter → List (List ℕ) → Ending → Verdict
 whole_verdict_by known says counters messages ending =
-    lines_verdict (whole_lines_by known details.Itemized says counters messages ending)
+    lines_verdict (whole_lines_by known itemized says counters messages ending)
 
 -- between counters, without any payloads that are known beforehand
 abbrev pub between_verdict :
     Answers → (first : List Counter) → (second : Option (List Counter)) → List (List ℕ) → Ending → Verdict
 between_verdict says first second messages ending =
-    lines_verdict (between_lines_by None details.Itemized says first second messages ending)
+    lines_verdict (between_lines_by None itemized says first second messages ending)
 
 -- ---- the numbers outside of a night, one by one
 

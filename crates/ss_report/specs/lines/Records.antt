@@ -1,14 +1,15 @@
 -- A line of a report as a record: its kind, and its fields in their order.
-use Rattle.std.specs.Prelude.{ℕ, List, ◌++◌, codes}
+use Rattle.std.specs.Prelude.{ℕ, List, [], ◌++◌, codes}
 use Rattle.ss_review.specs.declared.report.entry.Why.{Why}
 use Rattle.ss_review.specs.declared.report.entry.Why.TheVariants as whys
 use Rattle.ss_review.specs.declared.report.session_report.SessionState.{SessionState}
 use Rattle.ss_review.specs.declared.report.session_report.SessionState.TheVariants as states
+use Rattle.ss_report.specs.declared.lines.order.Order.{Order}
 use Rattle.ss_report.specs.declared.lines.tally.Tally.{Tally}
 use Rattle.ss_report.specs.records.Record.{Value, Number, Word, Record, field}
 use Rattle.ss_report.specs.records.Fields.{session_fields, group_fields, cause_word, stretch_fields}
 use Rattle.ss_report.specs.lines.Lines.{ReportLine, SessionLine, OkLine, GapLine, HoleLine, TailLine, BlocksLine}
-use Rattle.ss_report.specs.lines.Lines.{EarlyLine, BeyondLine, AbsentLine, TallyLine}
+use Rattle.ss_report.specs.lines.Lines.{EarlyLine, BeyondLine, AbsentLine, TallyLine, DisorderLine, EmptyLine}
 use Rattle.ss_report.specs.lines.Lines.{UnlistedLine, RefusedLine, SpoiltLine, UnlistedCountLine, RefusedCountLine}
 use Rattle.ss_report.specs.lines.Lines.{SpoiltCountLine, DamagedLine, DamagedCountLine, TornLine, EndLine}
 
@@ -31,6 +32,12 @@ tally_fields t =
     ++ field (codes "disputed") (Number t.disputed) ++ field (codes "holes") (Number t.holes)
     ++ field (codes "first") (Number t.first) ++ field (codes "last") (Number t.last)
 
+-- how many listed messages stand in front of the one before them, and the number and the place of the first
+unfoldable pub order_fields : Order → List (List ℕ × Value)
+order_fields o =
+    field (codes "count") (Number o.count) ++ field (codes "number") (Number o.number)
+    ++ field (codes "place") (Number o.place)
+
 abbrev pub kind_of : ReportLine → List ℕ
 kind_of (SessionLine s state) = codes "session"
 kind_of (OkLine s g number place) = codes "ok"
@@ -42,6 +49,7 @@ kind_of (TailLine s g first last) = codes "tail"
 kind_of (BlocksLine s first last) = codes "blocks"
 kind_of (AbsentLine s) = codes "session"
 kind_of (TallyLine s g t) = codes "tally"
+kind_of (DisorderLine s g o) = codes "disorder"
 kind_of (UnlistedLine place) = codes "unlisted"
 kind_of (RefusedLine place) = codes "refused"
 kind_of (SpoiltLine place cause) = codes "spoilt"
@@ -51,6 +59,7 @@ kind_of (SpoiltCountLine count) = codes "spoilt-count"
 kind_of (DamagedLine place offset size) = codes "damaged"
 kind_of (DamagedCountLine count octets) = codes "damaged-count"
 kind_of (TornLine offset) = codes "torn"
+kind_of EmptyLine = codes "empty"
 kind_of (EndLine count) = codes "end"
 
 abbrev pub fields_of : ReportLine → List (List ℕ × Value)
@@ -72,6 +81,7 @@ fields_of (BlocksLine s first last) =
     session_fields s ++ field (codes "first") (Number first) ++ field (codes "last") (Number last)
 fields_of (AbsentLine s) = session_fields s ++ field (codes "state") (Word (codes "absent"))
 fields_of (TallyLine s g t) = session_fields s ++ group_fields g ++ tally_fields t
+fields_of (DisorderLine s g o) = session_fields s ++ group_fields g ++ order_fields o
 fields_of (UnlistedLine place) = field (codes "place") (Number place)
 fields_of (RefusedLine place) = field (codes "place") (Number place)
 fields_of (SpoiltLine place cause) =
@@ -83,6 +93,7 @@ fields_of (DamagedLine place offset size) = stretch_fields place offset size
 fields_of (DamagedCountLine count octets) =
     field (codes "count") (Number count) ++ field (codes "octets") (Number octets)
 fields_of (TornLine offset) = field (codes "offset") (Number offset)
+fields_of EmptyLine = []
 fields_of (EndLine count) = field (codes "count") (Number count)
 
 abbrev pub record_of : ReportLine → Record

@@ -15,7 +15,7 @@ use Rattle.ss_review.specs.pinned.Stands.{StandsFor}
 use Rattle.ss_report.specs.texts.Inspection.{inspection}
 use Rattle.ss_report.specs.forms.Forms.{line_as, report_lines}
 use Rattle.ss_block.specs.declared.session.Session.{Session}
-use Rattle.ss_report.specs.lines.Lines.{ReportLine, lines}
+use Rattle.ss_report.specs.lines.Lines.{ReportLine, itemizing, lines}
 use Rattle.ss_report.specs.lines.Whole.{TellsMissing}
 use Rattle.ss_report.specs.lines.Between.{between_lines_by, lines_by, whole_lines_by}
 use Rattle.ss_review.specs.declared.counted.counter.Counter.{Counter}
@@ -31,7 +31,6 @@ use Rattle.ss_report.specs.declared.runs.extraction.Extraction.{Extraction}
 use Rattle.ss_report.specs.declared.forms.inspection_form.InspectionForm.{InspectionForm}
 use Rattle.ss_report.specs.declared.forms.report_form.ReportForm.{ReportForm}
 use Rattle.ss_report.specs.declared.lines.detail.Detail.{Detail}
-use Rattle.ss_report.specs.declared.lines.detail.Detail.TheVariants as details
 use Rattle.ss_report.specs.declared.notation.Notation.{Notation}
 use Rattle.ss_report.specs.declared.payloads.Payloads.{Payloads}
 use Rattle.ss_report.specs.declared.payloads.Payloads.TheVariants as payloads
@@ -55,11 +54,11 @@ reviewing says = record {
   refusal = nothing;
 }
 
--- these lines in a form, with the verdict of all of them
+-- these lines in a form, with the verdict of all of them, each item with a line of its own
 abbrev pub reporting : ReportForm → Detail → (Detail → List (List ℕ) → Ending → List ReportLine) → Job
 reporting form detail lines = record {
   output = λ messages ending. flat_map (line_as form) (lines detail messages ending);
-  verdict = λ messages ending. lines_verdict (lines details.Itemized messages ending);
+  verdict = λ messages ending. lines_verdict (lines (itemizing detail) messages ending);
   reviews = true;
   refusal = nothing;
 }

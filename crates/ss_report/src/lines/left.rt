@@ -3,13 +3,14 @@
 ghost use Rattle.std.specs.Prelude.{◌≡◌, ◌++◌, ◌∷◌, [], map, flat_map, filter_map};
 ghost use Rattle.ss_between.specs.Between.{entry_left, run_left, tail_left};
 ghost use Rattle.ss_report.specs.lines.Taken.{TakesAll};
-ghost use Rattle.ss_report.specs.lines.Lines.{entry_line, group_lines, seen, session_lines};
+ghost use Rattle.ss_report.specs.lines.Lines.{entry_line, entry_lines, group_lines, order_lines, seen, session_lines};
 ghost use Rattle.ss_report.specs.lines.Between.{gbc_from, group_from, number_from, session_from, shortfall_from};
 ghost use Rattle.ss_report.specs.lines.Between.{tail_from};
 ghost use Rattle.ss_report.specs.lines.Whole.{missing_line, shortfall_lines, tail_line};
 
-use crate::lines::detail::Detail;
+use crate::lines::detail::{Detail, Listing};
 use crate::lines::line::Line;
+use crate::lines::order::Order;
 use crate::lines::tally::Tally;
 use crate::lines::visitor::LineVisitor;
 use ss_between::{Bounds, entry_left, run_left, tail_left};
@@ -57,7 +58,7 @@ fn walk_groups_left<S, V: LineVisitor<S>>(
     }
 }
 
-/// Hands on the lines of what is left of a group, or its counts.
+/// Hands on the lines of what is left of a group, or its counts, and then the finding about its order, if that is one.
 fn walk_group_left<S, V: LineVisitor<S>>(
     visitor: &V,
     into: &mut S,
@@ -72,9 +73,37 @@ fn walk_group_left<S, V: LineVisitor<S>>(
     let group = report.group;
     let number = number_from(first, session, group);
     let entries = report.entries.as_slice();
-    match detail {
-        Detail::Itemized => walk_entries_left(visitor, into, session, group, entries, number),
-        Detail::Tally => {
+    walk_listing(
+        visitor,
+        into,
+        session,
+        group,
+        entries,
+        number,
+        detail.listing,
+    );
+    if detail.in_order {
+        let order = Order::of_left(number, entries);
+        walk_order(visitor, into, session, group, order);
+    }
+}
+
+/// Hands on a line for each entry of a group, without the numbers of holes below this one, or their counts.
+fn walk_listing<S, V: LineVisitor<S>>(
+    visitor: &V,
+    into: &mut S,
+    session: &Session,
+    group: Group,
+    entries: &[Entry],
+    number: u64,
+    listing: Listing,
+)
+    ensures { TakesAll (V.takes visitor.now) into.old into.new
+        (entry_lines listing session.now group (filter_map (entry_left number) entries.now)) }
+{
+    match listing {
+        Listing::Itemized => walk_entries_left(visitor, into, session, group, entries, number),
+        Listing::Tally => {
             let tally = Tally::of_left(number, entries);
             visitor.visit(
                 into,
@@ -85,6 +114,28 @@ fn walk_group_left<S, V: LineVisitor<S>>(
                 },
             );
         }
+    }
+}
+
+/// Hands on that the listed messages of a group don't stand in the order of their numbers, if that is so.
+fn walk_order<S, V: LineVisitor<S>>(
+    visitor: &V,
+    into: &mut S,
+    session: &Session,
+    group: Group,
+    order: Order,
+)
+    ensures { TakesAll (V.takes visitor.now) into.old into.new (order_lines session.now group order) }
+{
+    if order.count != 0 {
+        visitor.visit(
+            into,
+            Line::Disorder {
+                session,
+                group,
+                order,
+            },
+        );
     }
 }
 

@@ -1,4 +1,5 @@
 //! A line of a report.
+use crate::lines::order::Order;
 use crate::lines::tally::Tally;
 use ss_block::{Group, Session, Spoil};
 use ss_review::{GroupTail, MissingRun, SessionState, Why};
@@ -69,6 +70,12 @@ pub(crate) enum Line<'r> {
         group: Group,
         tally: Tally,
     },
+    /// The listed messages of a group don't stand in the order of their numbers.
+    Disorder {
+        session: &'r Session,
+        group: Group,
+        order: Order,
+    },
     /// A message without a block that is listed nowhere.
     Unlisted {
         place: u32,
@@ -109,6 +116,8 @@ pub(crate) enum Line<'r> {
     Torn {
         offset: u64,
     },
+    /// The log has no message.
+    Empty,
     /// How many messages the log has.
     End {
         count: u32,

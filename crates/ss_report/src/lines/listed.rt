@@ -3,7 +3,7 @@ ghost use Rattle.std.specs.Prelude.{◌≡◌, IfOk};
 ghost use Rattle.ss_review.specs.report.Extract.{listed_places};
 ghost use Rattle.ss_report.specs.lines.Listed.{KeepsPlace};
 
-use crate::lines::detail::Detail;
+use crate::lines::detail::{Detail, Listing};
 use crate::lines::line::Line;
 use crate::lines::visitor::LineVisitor;
 use crate::lines::walk::walk_lines;
@@ -22,8 +22,8 @@ pub(crate) fn listed_places(alloc: Global, report: &Report) -> Result<Places, No
         failed: false,
     };
     let ending = Ending::undamaged(alloc, Tail::Clean);
-    let each = Detail::Itemized;
-    walk_lines(&Listing, &mut so_far, report, &None, &ending, each);
+    let each = Detail::of(Listing::Itemized);
+    walk_lines(&Keeping, &mut so_far, report, &None, &ending, each);
     let PlacesSoFar { places, failed } = so_far;
     if failed {
         return Err(NoMemory);
@@ -38,9 +38,9 @@ struct PlacesSoFar {
 }
 
 /// Keeps the place of each message that is listed.
-struct Listing;
+struct Keeping;
 
-impl LineVisitor<PlacesSoFar> for Listing {
+impl LineVisitor<PlacesSoFar> for Keeping {
     ghost takes = { λ _. KeepsPlace };
 
     fn visit(&self, into: &mut PlacesSoFar, line: Line<'_>) {

@@ -1,10 +1,10 @@
 //! The walk through the lines of a report that come after those of its sessions.
 ghost use Rattle.std.specs.Prelude.{◌≡◌, ◌++◌, ◌∷◌, [], map};
 ghost use Rattle.ss_report.specs.lines.Taken.{TakesAll};
-ghost use Rattle.ss_report.specs.lines.Lines.{UnlistedLine, RefusedLine, EndLine, spoilt_place_line, single_lines};
+ghost use Rattle.ss_report.specs.lines.Lines.{UnlistedLine, RefusedLine, end_lines, spoilt_place_line, single_lines};
 ghost use Rattle.ss_report.specs.lines.Lines.{tail_lines, ending_lines, damage_lines, damage_count, damage_line, other_lines};
 
-use crate::lines::detail::Detail;
+use crate::lines::detail::{Detail, Listing};
 use crate::lines::line::Line;
 use crate::lines::visitor::LineVisitor;
 use crate::log::ending::{Damage, Ending, octets_of};
@@ -22,24 +22,24 @@ pub(crate) fn walk_others<S, V: LineVisitor<S>>(
 )
     ensures { TakesAll (V.takes visitor.now) into.old into.new (other_lines detail report.now ending.now) }
 {
-    walk_singles(visitor, into, report, detail);
+    walk_singles(visitor, into, report, detail.listing);
     walk_end(visitor, into, ending, report.count, detail);
 }
 
 /// Hands on the lines of single messages, or their counts.
-fn walk_singles<S, V: LineVisitor<S>>(visitor: &V, into: &mut S, report: &Report, detail: Detail)
-    ensures { TakesAll (V.takes visitor.now) into.old into.new (single_lines detail report.now) }
+fn walk_singles<S, V: LineVisitor<S>>(visitor: &V, into: &mut S, report: &Report, listing: Listing)
+    ensures { TakesAll (V.takes visitor.now) into.old into.new (single_lines listing report.now) }
 {
-    match detail {
-        Detail::Itemized => walk_items(visitor, into, report),
-        Detail::Tally => walk_counts(visitor, into, report),
+    match listing {
+        Listing::Itemized => walk_items(visitor, into, report),
+        Listing::Tally => walk_counts(visitor, into, report),
     }
 }
 
 /// Hands on a line for each unlisted, refused and spoilt message.
 #[tactic(auto, unfolding(crate::specs::lines::Lines::single_lines))]
 fn walk_items<S, V: LineVisitor<S>>(visitor: &V, into: &mut S, report: &Report)
-    ensures { TakesAll (V.takes visitor.now) into.old into.new (single_lines Detail.Itemized report.now) }
+    ensures { TakesAll (V.takes visitor.now) into.old into.new (single_lines Listing.Itemized report.now) }
 {
     walk_unlisted(visitor, into, report.unlisted.as_slice());
     walk_refused(visitor, into, report.refused.as_slice());
@@ -49,7 +49,7 @@ fn walk_items<S, V: LineVisitor<S>>(visitor: &V, into: &mut S, report: &Report)
 /// Hands on how many messages are unlisted, refused and spoilt.
 #[tactic(auto, unfolding(crate::specs::lines::Lines::single_lines))]
 fn walk_counts<S, V: LineVisitor<S>>(visitor: &V, into: &mut S, report: &Report)
-    ensures { TakesAll (V.takes visitor.now) into.old into.new (single_lines Detail.Tally report.now) }
+    ensures { TakesAll (V.takes visitor.now) into.old into.new (single_lines Listing.Tally report.now) }
 {
     let unlisted = report.unlisted.as_slice().len() as u64;
     let refused = report.refused.as_slice().len() as u64;
@@ -96,27 +96,43 @@ fn walk_end<S, V: LineVisitor<S>>(
     count: u32,
     detail: Detail,
 )
-    ensures { TakesAll (V.takes visitor.now) into.old into.new (ending_lines detail ending.now ++ EndLine count ∷ []) }
+    ensures { TakesAll (V.takes visitor.now) into.old into.new
+        (ending_lines detail.listing ending.now ++ end_lines detail.not_empty count) }
 {
-    walk_ending(visitor, into, ending, detail);
+    walk_ending(visitor, into, ending, detail.listing);
+    walk_count(visitor, into, count, detail.not_empty);
+}
+
+/// Hands on that the log has no message, if that is a finding, and then how many it has.
+fn walk_count<S, V: LineVisitor<S>>(visitor: &V, into: &mut S, count: u32, not_empty: bool)
+    ensures { TakesAll (V.takes visitor.now) into.old into.new (end_lines not_empty count) }
+{
+    if not_empty && count == 0 {
+        visitor.visit(into, Line::Empty);
+    }
     visitor.visit(into, Line::End { count });
 }
 
 /// Hands on what is damaged, and the torn end, if there is one.
-fn walk_ending<S, V: LineVisitor<S>>(visitor: &V, into: &mut S, ending: &Ending, detail: Detail)
-    ensures { TakesAll (V.takes visitor.now) into.old into.new (ending_lines detail ending.now) }
+fn walk_ending<S, V: LineVisitor<S>>(visitor: &V, into: &mut S, ending: &Ending, listing: Listing)
+    ensures { TakesAll (V.takes visitor.now) into.old into.new (ending_lines listing ending.now) }
 {
-    walk_damage(visitor, into, ending.damaged.as_slice(), detail);
+    walk_damage(visitor, into, ending.damaged.as_slice(), listing);
     walk_tail(visitor, into, ending.tail);
 }
 
 /// Hands on what is damaged, or how much.
-fn walk_damage<S, V: LineVisitor<S>>(visitor: &V, into: &mut S, damaged: &[Damage], detail: Detail)
-    ensures { TakesAll (V.takes visitor.now) into.old into.new (damage_lines detail damaged.now) }
+fn walk_damage<S, V: LineVisitor<S>>(
+    visitor: &V,
+    into: &mut S,
+    damaged: &[Damage],
+    listing: Listing,
+)
+    ensures { TakesAll (V.takes visitor.now) into.old into.new (damage_lines listing damaged.now) }
 {
-    match detail {
-        Detail::Itemized => walk_damaged(visitor, into, damaged),
-        Detail::Tally => walk_damaged_count(visitor, into, damaged),
+    match listing {
+        Listing::Itemized => walk_damaged(visitor, into, damaged),
+        Listing::Tally => walk_damaged_count(visitor, into, damaged),
     }
 }
 

@@ -3,12 +3,14 @@ ghost use Rattle.std.specs.Prelude.{◌≡◌, ◌++◌, codes};
 ghost use Rattle.ss_frame.specs.Watched.{sink_of};
 ghost use Rattle.ss_report.specs.log.Writing.{Writes};
 ghost use Rattle.ss_report.specs.lines.Lines.{seen};
-ghost use Rattle.ss_report.specs.lines.Records.{state_word, why_word, tally_fields, kind_of, fields_of, record_of};
+ghost use Rattle.ss_report.specs.lines.Records.{state_word, why_word, tally_fields, order_fields};
+ghost use Rattle.ss_report.specs.lines.Records.{kind_of, fields_of, record_of};
 ghost use Rattle.ss_report.specs.records.Record.{field, Number, Word};
 ghost use Rattle.ss_report.specs.records.Fields.{session_fields, group_fields};
 ghost use Rattle.ss_report.specs.records.Written.{fields_in, written};
 
 use crate::lines::line::Line;
+use crate::lines::order::Order;
 use crate::lines::tally::Tally;
 use crate::notation::Notation;
 use crate::records::fields::{put_group, put_session, put_spoilt, put_stretch};
@@ -43,6 +45,7 @@ fn kind_of(line: Line<'_>) -> &'static [u8]
         Line::Tail { .. } => b"tail",
         Line::Blocks { .. } => b"blocks",
         Line::Tally { .. } => b"tally",
+        Line::Disorder { .. } => b"disorder",
         Line::Unlisted { .. } => b"unlisted",
         Line::Refused { .. } => b"refused",
         Line::Spoilt { .. } => b"spoilt",
@@ -52,6 +55,7 @@ fn kind_of(line: Line<'_>) -> &'static [u8]
         Line::Damaged { .. } => b"damaged",
         Line::DamagedCount { .. } => b"damaged-count",
         Line::Torn { .. } => b"torn",
+        Line::Empty => b"empty",
         Line::End { .. } => b"end",
     }
 }
@@ -103,6 +107,11 @@ fn put_fields<W: Write>(writer: &mut Watched<W>, notation: Notation, line: Line<
             group,
             tally,
         } => put_tally(writer, notation, session, group, tally),
+        Line::Disorder {
+            session,
+            group,
+            order,
+        } => put_disorder(writer, notation, session, group, order),
         Line::Unlisted { place } | Line::Refused { place } => {
             put(writer, notation, b"place", Value::Number(u64::from(place)))
         }
@@ -117,6 +126,7 @@ fn put_fields<W: Write>(writer: &mut Watched<W>, notation: Notation, line: Line<
         } => put_stretch(writer, notation, u64::from(place), offset, length),
         Line::DamagedCount { count, octets } => put_stretches(writer, notation, count, octets),
         Line::Torn { offset } => put(writer, notation, b"offset", Value::Number(offset)),
+        Line::Empty => {}
         Line::End { count } => put(writer, notation, b"count", Value::Number(u64::from(count))),
     }
 }
@@ -281,6 +291,39 @@ fn put_counts<W: Write>(writer: &mut Watched<W>, notation: Notation, tally: Tall
     put(writer, notation, b"holes", Value::Wide(tally.holes));
     put(writer, notation, b"first", Value::Number(tally.first));
     put(writer, notation, b"last", Value::Number(tally.last));
+}
+
+/// Writes the session, the group, and how its listed messages stand.
+#[tactic(auto, using(crate::proofs::of_writing::Records::three_fields))]
+fn put_disorder<W: Write>(
+    writer: &mut Watched<W>,
+    notation: Notation,
+    session: &Session,
+    group: Group,
+    order: Order,
+)
+    ensures { Writes (sink_of W.contents writer.old) (sink_of W.contents writer.new) (fields_in notation
+        (session_fields session.now ++ group_fields group ++ order_fields order)) }
+{
+    put_session(writer, notation, session);
+    put_group(writer, notation, group);
+    put_order(writer, notation, order);
+}
+
+/// Writes how many listed messages stand in front of the one before them, and the number and the place of the first.
+#[tactic(auto, unfolding(crate::specs::lines::Records::order_fields))]
+fn put_order<W: Write>(writer: &mut Watched<W>, notation: Notation, order: Order)
+    ensures { Writes (sink_of W.contents writer.old) (sink_of W.contents writer.new)
+        (fields_in notation (order_fields order)) }
+{
+    put(writer, notation, b"count", Value::Number(order.count));
+    put(writer, notation, b"number", Value::Number(order.number));
+    put(
+        writer,
+        notation,
+        b"place",
+        Value::Number(u64::from(order.place)),
+    );
 }
 
 /// Writes how many stretches are damaged, and how many octets they have.

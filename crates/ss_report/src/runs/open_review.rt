@@ -36,7 +36,7 @@ use crate::runs::beside::Beside;
 use crate::runs::concluding::{Concluded, conclude};
 use crate::runs::outcome::end_run;
 use crate::runs::questions::{Asked, marks_for, write_asked};
-use crate::verdict::verdict::{Verdict, end_verdict, report_verdict};
+use crate::verdict::verdict::{Verdict, beside_verdict, end_verdict};
 use ss_frame::Watched;
 use ss_octets::Bytes;
 use ss_review::laws::counted::counted_or_missing;
@@ -146,7 +146,7 @@ impl OpenReview {
         counted_or_missing();
         every_number_is_told();
         every_block_is_told();
-        match review_fed(alloc, fed, judge, known, beside) {
+        match review_fed(alloc, fed, judge, known, beside, detail) {
             Ok(reviewed) => write_reviewed(writer, reviewed, form, detail),
             Err(fault) => Err(fault),
         }
@@ -228,6 +228,7 @@ fn review_fed<'c, J: Judge + Drop>(
     judge: J,
     known: Option<&[Bytes]>,
     beside: Beside<'c>,
+    detail: Detail,
 ) -> Result<Reviewed<'c>, RunFault>
     requires sound { J.sound judge }
     requires askable { (q : Question) → J.askable judge q }
@@ -235,7 +236,7 @@ fn review_fed<'c, J: Judge + Drop>(
         → FeedsLog options before after fed.reviewer fed.ending
         → MatchResult result
         (λ reviewed.
-        (form : ReportForm) (detail : Detail)
+        (form : ReportForm)
         → Makes (reviewing_beside form detail beside.entry (given known.entry) (answers J.trusted J.valid judge)) options
         before after
         (flat_map (line_as form) (lines_beside detail reviewed.report reviewed.missing reviewed.ending)) reviewed.verdict)
@@ -244,7 +245,7 @@ fn review_fed<'c, J: Judge + Drop>(
 {
     let Fed { reviewer, ending } = fed;
     let Concluded { report, missing } = conclude(alloc, reviewer, judge, known, beside)?;
-    let verdict = report_verdict(&report, &missing, &ending);
+    let verdict = beside_verdict(&report, &missing, &ending, detail);
     Ok(Reviewed {
         report,
         missing,

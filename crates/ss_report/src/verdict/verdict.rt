@@ -1,9 +1,10 @@
 //! Whether a run over a log found anything.
 ghost use Rattle.std.specs.Prelude.{◌≡◌};
-ghost use Rattle.ss_report.specs.Verdict.{end_verdict, is_clean_tail, lines_verdict, verdict_of};
+ghost use Rattle.ss_report.specs.Verdict.{end_verdict, is_clean_tail, lines_verdict, report_verdict, verdict_of};
 ghost use Rattle.ss_report.specs.lines.Between.{lines_beside};
+ghost use Rattle.ss_report.specs.lines.Lines.{itemizing};
 
-use crate::lines::detail::Detail;
+use crate::lines::detail::{Detail, Listing};
 use crate::lines::missing::Missing;
 use crate::lines::settled::Settling;
 use crate::lines::walk::walk_lines;
@@ -39,17 +40,26 @@ fn is_clean_tail(tail: Tail) -> bool
     }
 }
 
-/// Whether no line of a report on a log with this ending leaves anything to look into, and none of what is missing
-/// beside it, if that is reported too.
-pub(crate) fn report_verdict(
+/// Whether no line of a report on a log with this ending leaves anything to look into.
+pub(crate) fn report_verdict(report: &Report, ending: &Ending) -> Verdict
+    ensures { result ≡ report_verdict report.now ending.now }
+{
+    let each = Detail::of(Listing::Itemized);
+    beside_verdict(report, &None, ending, each)
+}
+
+/// Whether no line of a report on a log with this ending leaves anything to look into, of those with each item and these
+/// findings, and none of what is missing beside it, if that is reported too.
+pub(crate) fn beside_verdict(
     report: &Report,
     missing: &Option<Missing<'_>>,
     ending: &Ending,
+    detail: Detail,
 ) -> Verdict
-    ensures { result ≡ lines_verdict (lines_beside Detail.Itemized report.now missing.now ending.now) }
+    ensures { result ≡ lines_verdict (lines_beside (itemizing detail) report.now missing.now ending.now) }
 {
     let mut settled = true;
-    let each = Detail::Itemized;
+    let each = detail.itemized();
     walk_lines(&Settling, &mut settled, report, missing, ending, each);
     verdict_of(settled)
 }

@@ -4,7 +4,7 @@ use super::Explanation;
 
 /// Words of a verdict, lines of a report, states of a session, lines of an inspection, and lines of answers, plans and
 /// questions.
-pub static WORDS: [Explanation; 46] = [
+pub static WORDS: [Explanation; 48] = [
     Explanation {
         code: "verified",
         text: "Of a block: its session is joined, and its own signature is valid under the session's payload. Only \
@@ -103,6 +103,14 @@ pub static WORDS: [Explanation; 46] = [
             run ssign review --findings.",
     },
     Explanation {
+        code: "disorder",
+        text: "Only ssign review --in-order writes this line, after the other lines of a group. After the group, SG and \
+            SPRI, stand three numbers. The first counts the listed messages that stand in the log in front of the one \
+            that is listed before them. The other two are the number and the place of the first of these. So somebody \
+            moved messages, or they came in another order than their sender signed them: a relay or a network may do \
+            that. The messages are authentic. Find out which order is right, by the numbers.",
+    },
+    Explanation {
         code: "unlisted",
         text: "No number lists this stored message. There are four cases. It was never signed, or its block comes only \
             after the end of this log: no other line shows this. Its block is missing or unverified: a hole, a refused \
@@ -158,6 +166,12 @@ pub static WORDS: [Explanation; 46] = [
         text: "The log breaks off in the frame or line that begins at this octet. What stands before it was read. The \
             log was cut off, or is still being written. Get the rest, and run again. If messages stand after it, a \
             length is wrong: with --salvage reading goes on after that.",
+    },
+    Explanation {
+        code: "empty",
+        text: "Only ssign review --not-empty writes this line. The log has no message. Nothing was stored, everything \
+            was removed, or another file was given. See whether the sender sent anything, and give its counters with \
+            --counters.",
     },
     Explanation {
         code: "end",

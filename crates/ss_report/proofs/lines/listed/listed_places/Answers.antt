@@ -6,4 +6,4 @@ use Rattle.ss_report.proofs.lines.listed.listed_places.Goals as goal
 
 pub returns : goal.returns
 returns c =
-    c.from_vec.ensures ∙ all_kept _ _ c.args.report.now (undamaged tails.Clean) (rw c.undamaged-ending.ensures at c.walk_lines.ensures) c.if-failed.false c.new.ensures.items
+    c.from_vec.ensures ∙ all_kept _ _ c.args.report.now (undamaged tails.Clean) (rw (c.undamaged-ending.ensures, c.of-each.ensures) at c.walk_lines.ensures) c.if-failed.false c.new.ensures.items

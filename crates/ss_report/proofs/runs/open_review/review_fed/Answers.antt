@@ -8,7 +8,7 @@ pub returns-clause-made : goal.returns-clause-made
 returns-clause-made g c = λ options before after fed.
     let says = answers g.J.Judge.trusted g.J.Judge.valid c.args.judge in
     let found = c.in_ok-report.field-0 in
-    λ form detail. makes_beside form detail c.args.beside (given c.args.known) says _ _ _ fed.messages c.args.fed.ending fed.reading fed.no_read_failed found.report found.missing _ (c.in_ok-report.ensures.made fed.messages fed.keeps) c.report_verdict-verdict.ensures
+    λ form. makes_beside form c.args.detail c.args.beside (given c.args.known) says _ _ _ fed.messages c.args.fed.ending fed.reading fed.no_read_failed found.report found.missing _ (c.in_ok-report.ensures.made fed.messages fed.keeps) c.beside_verdict-verdict.ensures
 
 pub returns-in_err-report-clause-made : goal.returns-in_err-report-clause-made
 returns-in_err-report-clause-made g c = λ options before after fed.

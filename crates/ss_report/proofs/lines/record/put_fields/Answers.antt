@@ -1,0 +1,5 @@
+use Rattle.ss_report.proofs.of_writing.Records.{nothing_put}
+use Rattle.ss_report.proofs.lines.record.put_fields.Goals as goal
+
+pub returns-in-Empty : goal.returns-in-Empty
+returns-in-Empty g c = rw c.in-Empty.is (nothing_put c.args.notation _)
