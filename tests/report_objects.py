@@ -29,6 +29,8 @@ KEYS = {
 # those of the other lines; two kinds have one word
 OTHER_KEYS = {
     "tally": [[*GROUP, "ok", "lost", "disputed", "holes", "first", "last"]],
+    "disorder": [[*GROUP, "count", "number", "place"]],
+    "empty": [[]],
     "unlisted-count": [["count"]],
     "refused-count": [["count"]],
     "spoilt-count": [["count"]],
