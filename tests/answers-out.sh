@@ -101,7 +101,7 @@ kinds=(file empty link dangling round folder fifo device)
 taken="ssign-keys: the file there/kept is there already, and isn't overwritten"
 # a program that takes the name while ssign reviews under the answers, after the first look
 # shellcheck disable=SC2016
-printf '#!/usr/bin/env bash\n[[ "$1 ${2-}" != "review --answers"* ]] || eval "$CHANGE"\nexec %q "$@"\n' "$program" >changing
+printf '#!/usr/bin/env bash\n[[ "$1 ${2-}" != "review --ask="* ]] || eval "$CHANGE"\nexec %q "$@"\n' "$program" >changing
 chmod +x changing
 export -f take
 # `blind OPTION..`: verify that sees no name taken until it is: as where it is taken a moment after the look
@@ -256,7 +256,7 @@ done
 
 # ---- signals, while ssign reviews, and while the verdict is written to a pipe that nobody reads
 # shellcheck disable=SC2016
-printf '#!/bin/sh\ncase "$1 ${2-}" in "review --answers"*) ;; *) exec %q "$@" ;; esac\necho $$ >waiting\nexec sleep 100\n' "$program" >dying && chmod +x dying
+printf '#!/bin/sh\ncase "$1 ${2-}" in "review --ask="*) ;; *) exec %q "$@" ;; esac\necho $$ >waiting\nexec sleep 100\n' "$program" >dying && chmod +x dying
 for it in INT TERM HUP; do
     rm -f waiting
     tried=$((tried + 1))

@@ -183,7 +183,7 @@ rm -f bomb unit packed twice
 
 # ---- logs that change: a program that, before it does the work of ssign, changes the log as the variable CHANGE says
 # shellcheck disable=SC2016
-printf '#!/usr/bin/env bash\n[[ $1 != "$WHEN" ]] || eval "$CHANGE"\nexec %q "$@"\n' "$program" >changing
+printf '#!/usr/bin/env bash\n[[ $1 != review ]] || eval "$CHANGE"\nexec %q "$@"\n' "$program" >changing
 chmod +x changing
 said="ssign-keys: the log stored was changed while it was read: run again, or hand over a copy"
 # an octet of the tenth message in place, with the size and the time of change as they were
@@ -199,22 +199,20 @@ declare -A changes=(
     ['taken away']='rm stored'
 )
 for what in "${!changes[@]}"; do
-    for WHEN in questions review; do
-        for form in '' --json --raw; do
-            [[ -z $form || $what == 'in place, its time set back' ]] || continue
-            cp -p signed stored
-            export WHEN CHANGE=${changes[$what]}
-            keys verify --key keys/public-key.pem ${form:+"$form"} --ssign ./changing --answers-out kept stored
-            # what ssign itself refuses of the changed log it may say in front
-            grep -v '^ssign: ' err >rest
-            cp rest err
-            refuses "a log that is changed, $what, at $WHEN $form" "$said"
-            holds "a log that is changed, $what, at $WHEN $form: no answers" test ! -e kept
-            rm -f kept
-        done
+    for form in '' --json --raw; do
+        [[ -z $form || $what == 'in place, its time set back' ]] || continue
+        cp -p signed stored
+        export CHANGE=${changes[$what]}
+        keys verify --key keys/public-key.pem ${form:+"$form"} --ssign ./changing --answers-out kept stored
+        # what ssign itself refuses of the changed log it may say in front
+        grep -v '^ssign: ' err >rest
+        cp rest err
+        refuses "a log that is changed, $what, $form" "$said"
+        holds "a log that is changed, $what, $form: no answers" test ! -e kept
+        rm -f kept
     done
 done
-export WHEN=questions CHANGE='cat stored >/dev/null; head -c 100 stored >/dev/null'
+export CHANGE='cat stored >/dev/null; head -c 100 stored >/dev/null'
 cp -p signed stored
 keys verify --key keys/public-key.pem --ssign ./changing stored
 holds 'a log that is only read meanwhile' test "$status" = 0
@@ -224,10 +222,13 @@ holds 'a copy of several logs is not changed' test "$status" = 1
 
 # a log that is changed through a map of its pages, which leaves its size and its times as they were: the SHA-256 that is shown, and
 # that a manifest is compared with, are those of the octets that were reviewed
-cp signed mapped
+seq -f '<13>1 - gate app - - - message %.0f of a log that is longer than what is read of it at once' 20000 >long
+keys sign --key keys/private-key.pem --ver 0121 --host gate --app signer --rsid 2 --lines long
+cp out mapped
+cp out unmapped
 mkfifo toggle toggled
 cat >mapper.py <<'END'
-"""Maps a log, whose pages are written to once, and changes an octet of its tenth message each time it is asked to."""
+"""Maps a log, whose pages are written to once, and changes an octet of a message near its end each time it is asked to."""
 import mmap
 import os
 import sys
@@ -249,16 +250,17 @@ toggle() {
     echo x >toggle
     cat toggled >fault
 }
-# after the run of ssign whose words are those of the pattern WHEN, the log is changed
+# before the review, or after it, the log is changed
 # shellcheck disable=SC2016
-printf '#!/usr/bin/env bash\n%q "$@"\nstatus=$?\n[[ $* != $WHEN ]] || { echo x >toggle; cat toggled >/dev/null; }\nexit $status\n' "$program" >mapping
+printf '#!/usr/bin/env bash\nchange() {\n    [[ $1 != "review $WHEN" ]] || { echo x >toggle; cat toggled >/dev/null; }\n}\n
+change "$1 before"\n%q "$@"\nstatus=$?\nchange "$1 after"\nexit $status\n' "$program" >mapping
 chmod +x mapping
-sum=$(sha256sum <signed | cut -d ' ' -f 1)
+sum=$(sha256sum <unmapped | cut -d ' ' -f 1)
 for form in --json --details --html=page; do
     rm -f page
-    WHEN='review *--answers=*' keys verify --key keys/public-key.pem --ssign ./mapping "$form" mapped
+    WHEN=after keys verify --key keys/public-key.pem --ssign ./mapping "$form" mapped
     [[ $form != --html=page ]] || cp page out
-    if [[ $(stat -c %Z mapped) != "$(stat -c %Z signed)" && $status == 2 ]]; then
+    if [[ $(stat -c %Z mapped) != "$(stat -c %Z unmapped)" && $status == 2 ]]; then
         echo "$name: skipped a map of a log, because its ctime moved"
     else
         holds "a log that is changed after its review, $form: status" test "$status" = 0
@@ -268,12 +270,11 @@ for form in --json --details --html=page; do
     toggle
 done
 : >manifest
-keys verify --key keys/public-key.pem --counters-out counters signed
-cp signed listed
+keys verify --key keys/public-key.pem --counters-out counters unmapped
 mv mapped kept-mapped && ln kept-mapped signed.mapped
 keys manifest add manifest signed.mapped --counters counters
 holds 'a manifest names the mapped log' test "$status" = 0
-WHEN='questions --once*' keys verify --key keys/public-key.pem --ssign ./mapping --manifest manifest signed.mapped
+WHEN=before keys verify --key keys/public-key.pem --ssign ./mapping --manifest manifest signed.mapped
 refuses 'a log that is changed after it was compared with a manifest' "ssign-keys: the log signed.mapped was changed while it was read: run again, or hand over a copy"
 toggle
 kill "$mapper"

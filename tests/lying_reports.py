@@ -3,8 +3,8 @@
 
     lying_reports.py FOLDER SSIGN-KEYS SSIGN    FOLDER has `signed`, ten messages in blocks of four, and the key of it
 
-A stand-in gives a report and a status for `review`, or lines for `inspect`, and hands all else to SSIGN. Whatever the
-form, a lie leads to status 2, one sentence, and nothing on standard output.
+A stand-in gives a report and a status for `review`, once SSIGN has asked and reviewed, or lines for `inspect`, and hands all
+else to SSIGN. Whatever the form, a lie leads to status 2, one sentence, and nothing on standard output.
 """
 from __future__ import annotations
 
@@ -21,6 +21,7 @@ NOTHING = b"ssign-keys: Nothing in this log is shown to be authentic. Whatever w
 FORMS = ((), ("--raw",), ("--json",), ("--findings",))
 STAND_IN = """#!/bin/sh
 if [ "$1" = "$LIE_COMMAND" ]; then
+    [ "$1" != review ] || "$LIE_PROGRAM" "$@" >/dev/null 2>&1
     cat "$LIE_OUTPUT"
     case $LIE_STATUS in
     -*) kill "$LIE_STATUS" $$ ;;
@@ -142,8 +143,8 @@ def lies(reports: "dict[str, Report]") -> Iterator[Lie]:
     for report in reports.values():
         if report.status == 1:
             yield Lie(f"status 0 of findings: {report.log}", report.log, joined(report.lines), 0)
-        # the report of another log, which is clean. That a hash is another one, only ssign can see
-        if report.log not in ("clean", "changed"):
+        # the report of another log, which is clean. If as many of its blocks are validly signed, only ssign can see that
+        if report.log not in ("clean", "changed", "added", "missing", "damaged"):
             yield Lie(f"a clean report on {report.log}", report.log, text, 0)
     yield from left_out(reports)
     yield from in_place_of_blocks(reports["missing"])
@@ -170,7 +171,6 @@ def left_out(reports: "dict[str, Report]") -> Iterator[Lie]:
     yield Lie("no unannounced numbers", "block", block.without(b"hole "), 1)
     yield Lie("no unlisted messages", "block", block.without(b"unlisted "), 1)
     yield Lie("nothing of the put in message", "added", reports["added"].without(b"unlisted "), 0)
-    yield Lie("nothing of the torn end", "torn", reports["torn"].without(b"torn "), 1)
     yield Lie("another torn end", "torn", joined([b"torn 7" if it.startswith(b"torn ") else it
                                                   for it in reports["torn"].lines]), 1)
 
@@ -273,22 +273,16 @@ def other_damage(first: List[int], second: List[int]) -> Iterator[Tuple[str, Lis
 
 
 def of_damage(clean: Report, report: Report) -> Iterator[Lie]:
-    """Reports and inspections of other damage than there is."""
+    """Reports of other damage than there is."""
     rest, end = report.without(b"damaged ", b"end "), report.lines[-1]
     lines = list(map(spelled, damage(report)))
     for name, others in other_damage(*damage(report)):
         yield Lie(f"damage: {name}", "damaged", rest + joined([*others, end]), 1)
-        yield Lie(f"inspect: damage: {name}", "damaged", joined([*others, end]), 1, "inspect")
     yield Lie("damage after the end", "damaged", rest + joined([end, *lines]), 1)
     yield Lie("damage after a torn end", "damaged", rest + joined([b"torn 7", *lines, end]), 1)
     yield Lie("damage before an unlisted message", "damaged", rest + joined([*lines, b"unlisted 5", end]), 1)
     yield Lie("damage that is there in a clean log", "clean", clean.edited(end, lines[0] + b"\n" + end), 1)
     yield Lie("damage that is no finding", "damaged", joined(report.lines), 0)
-    yield Lie("inspect: no damage", "damaged", end + b"\n", 0, "inspect")
-    yield Lie("inspect: damage, and no end", "damaged", joined(lines), 1, "inspect")
-    yield Lie("inspect: another end", "damaged", joined([*lines, b"end 1"]), 1, "inspect")
-    yield Lie("inspect: nothing can be read", "damaged", b"damaged 0 0 5000\nend 0\n", 1, "inspect")
-    yield Lie("inspect: all is torn", "damaged", b"torn 0\nend 0\n", 1, "inspect")
 
 
 def inspections() -> Iterator[Lie]:

@@ -3,12 +3,14 @@ from __future__ import annotations
 
 import argparse
 import subprocess
-from typing import Any, Dict, Iterator, List, Tuple
+from typing import Any, Callable, Dict, Iterator, List, Set, Tuple
 
-from ssign_keys.answer import told_answers
-from ssign_keys.asked import ONCE
+from ssign_keys.answer import answers
+from ssign_keys.blocks import Session, read_block
 from ssign_keys.commands import BUDGET
+from ssign_keys.encoding import decode
 from ssign_keys.faults import Fault
+from ssign_keys.fragments import MARK as CERTIFICATE
 from ssign_keys.pinned import Search
 from ssign_keys.programs import Refused, Run
 from ssign_keys.progress import Progress
@@ -35,20 +37,19 @@ def ask(settings: Settings, trust: Trust, reader: Reader, workplace: Workplace) 
     def read_again() -> Iterator[bytes]:
         return candidates(reader.again(), settings.are_lines)
 
-    known = Search(settings.program, settings.log_words, read_again, settings.are_lines, workplace, Progress()).run(trust, 1)
-    asking = Run(settings.program, ["questions", *ONCE, *known.words, *settings.log_words], workplace, Progress(), subprocess.PIPE,
+    disputed = find_disputed(settings, read_again, workplace)
+    known = Search(read_again, settings.are_lines, workplace).run(disputed, trust, 1)
+    asking = Run(settings.program, ["questions", "--once", *known.words, *settings.log_words], workplace, Progress(), subprocess.PIPE,
                  subprocess.PIPE)
     asking.feed(filter(known.asks, candidates(reader, settings.are_lines)))
     weak: Dict[str, None] = {}
     try:
-        with workplace.new_file("answers") as file, told_answers(asking.lines(lambda: None), trust, 1) as answered:
+        with workplace.new_file("answers") as file, answers(asking.lines(lambda: None), trust, 1) as answered:
             for it in answered:
-                if not it.line:
-                    continue
                 put(file, it.line)
-                # a `trust` line has no block
-                if it.block is not None and it.block.version == SHA1:
-                    weak[str(it.block.session)] = None
+                block = read_block(decode(it.line.split(b" ")[2]) or b"") if it.is_block else None
+                if block is not None and block.version == SHA1:
+                    weak[str(block.session)] = None
             finish(file)
     except Refused as refused:
         where = "" if refused.where is None else f" {refused.where}"
@@ -57,6 +58,23 @@ def ask(settings: Settings, trust: Trust, reader: Reader, workplace: Workplace) 
     if not settings.allows_sha1:
         found += [f"sha1, the session {it} rests on SHA-1, for which two texts with one hash can be made" for it in weak]
     return [f"--answers={workplace.path('answers')}", *known.words], found
+
+
+def find_disputed(settings: Settings, read_again: Callable[[], Iterator[bytes]], workplace: Workplace) -> Set[Session]:
+    """The sessions whose certificate blocks contradict each other, by a review of these blocks alone."""
+    reviewing = Run(settings.program, ["review", *settings.log_words], workplace, Progress(), subprocess.PIPE, subprocess.PIPE)
+    # without answers, the lines about sessions stand in front
+    reviewing.feed(it for it in read_again() if CERTIFICATE in it)
+    found = set()
+    try:
+        for line in reviewing.lines(lambda: None):
+            word, *fields = line.split()
+            if word == b"session" and fields[4] == b"disputed":
+                found.add(Session(*fields[:4]))
+    except Refused:
+        # whoever asks about the part, or reviews it, is refused too, and says so
+        return set()
+    return found
 
 
 def candidates(reader: Reader, are_lines: bool) -> Iterator[bytes]:

@@ -1,47 +1,49 @@
-"""Whether the status of `ssign review`, the lines of its report and the log agree. If they don't, there is no verdict.
+"""Whether the status of `ssign review`, the lines of its report and the signatures agree. If they don't, there is no verdict.
 
 A report is surveyed before anything of it is shown: also one that is passed on as it stands.
 """
 from __future__ import annotations
 
 from array import array
-from typing import Counter, NamedTuple, Optional, Sequence, Set, Tuple
+from typing import BinaryIO, Counter, Optional, Sequence, Set, Tuple
 
 from . import sha1
 from .blocks import Session
 from .damage import Damage, Damaged
 from .kept import Counters
 from .reach import Reach
-from .report import Group, ReportVisitor, wrong
+from .report import Group, ReportVisitor, number_of, wrong
 from .block_facts import Notes, BlockFacts
 
 
-class Walked(NamedTuple):
-    """What was seen of a log without ssign."""
+# the greatest --max-messages of ssign, and the octets of a last line that counts so many
+MOST, LONGEST = 10000000, len(b"end 10000000\n")
 
-    messages: int
-    """How many whole messages it has."""
-    end: int
-    """The octet after the last of them."""
-    size: int
-    """How many octets it has."""
-    marked: int
-    """How many messages hold the octets `[ssign`. Each block is one of them."""
-    damage: Optional[Damage] = None
-    """What ssign says is damaged; None where it wasn't asked to read on after damage."""
+
+def messages_of(report: BinaryIO) -> int:
+    """How many messages a report counts in its last line."""
+    report.seek(max(0, report.seek(0, 2) - LONGEST - 1))
+    front, word, last = report.read().rpartition(b"end ")
+    if not word or front[-1:] not in (b"", b"\n") or not last.endswith(b"\n"):
+        raise wrong("it has no end")
+    messages = number_of(last[:-1])
+    if messages > MOST:
+        raise wrong(f"it counts {messages} messages")
+    return messages
 
 
 class Survey(ReportVisitor):
     """Counts the lines of a report, and keeps which messages are unlisted, and how far each group goes."""
 
-    def __init__(self, walked: Walked, notes: Notes, is_whole: bool, counters: Optional[Counters],
-                 begin: Optional[Counters] = None) -> None:
-        """Nothing is surveyed yet."""
-        super().__init__(is_whole, counters, begin, walked.damage is not None)
+    def __init__(self, messages: int, notes: Notes, is_whole: bool, counters: Optional[Counters],
+                 begin: Optional[Counters], is_salvaged: bool) -> None:
+        """Nothing is surveyed yet. The report ends with so many messages."""
+        super().__init__(is_whole, counters, begin, is_salvaged)
         self.damage = Damage()
         self.unlisted = array("I")
         self.refused = array("I")
         self.joined: Set[Session] = set()
+        self.disputed: Set[Session] = set()
         # the fingerprint of each other key than the given ones, and how many untrusted sessions state it
         self.other_keys: Counter[str] = Counter()
         self.reach = Reach(counters)
@@ -54,9 +56,8 @@ class Survey(ReportVisitor):
         self.on_sha1 = 0
         # how many blocks of joined sessions are validly signed
         self._valid = 0
-        self._walked = walked
         # for each place whether a line has it
-        self._seen = bytearray(walked.messages)
+        self._seen = bytearray(messages)
 
     @property
     def verified(self) -> int:
@@ -67,6 +68,11 @@ class Survey(ReportVisitor):
     def count_named(self, first: int, end: int) -> int:
         """How many of the places from a first one up to an end have a line."""
         return self._seen.count(1, first, end)
+
+    @property
+    def has_blocks(self) -> bool:
+        """Whether blocks are there, verified or not."""
+        return bool(self.totals.refused + self.totals.spoilt + self.verified)
 
     @property
     def has_findings(self) -> bool:
@@ -83,23 +89,15 @@ class Survey(ReportVisitor):
                     or sum(self.states.values()) != self.states.get("joined", 0))
 
     def check(self, status: int, valid: int) -> None:
-        """Raises Fault where the status, the lines and the log don't agree. So many blocks have a valid signature."""
+        """Raises Fault where the status, the lines and the signatures don't agree. So many blocks have a valid one."""
         if status == 0 and self.has_findings:
             raise wrong("the status is 0, and it has findings")
         if status == 1 and not self.has_findings:
             raise wrong("the status is 1, and it has no finding")
-        totals, walked = self.totals, self._walked
-        if totals.messages != walked.messages:
-            raise wrong(f"it counts {totals.messages} messages, and the log has {walked.messages}")
-        if totals.torn != (walked.end if walked.end < walked.size else None):
-            raise wrong("it doesn't say how the log ends")
-        if walked.damage is not None and self.damage != walked.damage:
-            raise wrong("it doesn't say which octets of the log are damaged")
+        totals = self.totals
         named = totals.listed + totals.unlisted + totals.refused + totals.spoilt
         if self._seen.count(1) != named:
             raise wrong("two of its lines are about one message")
-        if totals.refused + totals.spoilt + self.verified > walked.marked:
-            raise wrong(f"it leaves out messages: only {walked.marked} can be blocks")
         if self.verified > valid:
             raise wrong(f"it leaves room for {self.verified} verified blocks, and only {valid} signatures are valid")
         if self.verified != self._valid:
@@ -123,6 +121,8 @@ class Survey(ReportVisitor):
         if state == "joined":
             self.joined.add(session)
             self._valid += 0 if self._facts is None else self._facts.valid
+        if state == "disputed":
+            self.disputed.add(session)
         if state == "untrusted" and self._facts is not None and self._facts.finding.other_key:
             self.other_keys[self._facts.finding.other_key] += 1
         if state not in ("joined", "absent"):

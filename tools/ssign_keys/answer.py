@@ -7,8 +7,7 @@ from types import TracebackType
 from typing import Generator, Iterable, Iterator, List, NamedTuple, Optional, Type
 
 from . import trust as trusts
-from .asked import Form, Told
-from .blocks import Block, Counters, Session
+from .blocks import Session
 from .checking import Held
 from .commands import PROCESSES, SECONDS
 from .faults import Fault
@@ -31,15 +30,11 @@ class Answered(NamedTuple):
     """The session that it is asked for; None for a `trust` line after which no block of that payload is asked about."""
     finding: Finding
     """Whose key it is, or why none is trusted."""
-    block: Optional[Block]
-    """What the octets of a `yes` line say, where ssign said it."""
-    counters: Optional[Counters]
-    """The same of a signature block."""
 
     @property
-    def is_payload(self) -> bool:
-        """Whether it is a `trust` line."""
-        return self.line.startswith(b"trust ")
+    def is_block(self) -> bool:
+        """Whether it is a `yes` line."""
+        return self.line.startswith(b"yes ")
 
 
 @dataclass
@@ -89,10 +84,10 @@ class Answers(Iterator[Answered]):
     Used with `with`, or ended by `close`, it leaves no process running, wherever the taking stopped.
     """
 
-    def __init__(self, lines: Iterable[bytes], trust: Trust, jobs: int, form: Optional[Form]) -> None:
+    def __init__(self, lines: Iterable[bytes], trust: Trust, jobs: int) -> None:
         """Takes no line yet."""
         self.counts = Counts()
-        self._taken = self._take(lines, trust, jobs, form)
+        self._taken = self._take(lines, trust, jobs)
 
     def __iter__(self) -> Answers:
         """Itself."""
@@ -115,10 +110,9 @@ class Answers(Iterator[Answered]):
         """Ends the processes that check signatures."""
         self._taken.close()
 
-    def _take(self, lines: Iterable[bytes], trust: Trust, jobs: int, form: Optional[Form],
-              ) -> Generator[Answered, None, None]:
+    def _take(self, lines: Iterable[bytes], trust: Trust, jobs: int) -> Generator[Answered, None, None]:
         """The lines that hold. Raises Fault at the first that is no question."""
-        workers, reader = Workers(trust, jobs), Reader(trust.longest, form)
+        workers, reader = Workers(trust, jobs), Reader(trust.longest)
         self.counts.most = trust.longest
         try:
             for asked, checked in workers.check(reader.chunks(lines)):
@@ -138,7 +132,7 @@ class Answers(Iterator[Answered]):
         is_so = held is not None and held.is_so
         self.counts.add(line, is_so)
         if held:
-            yield Answered(line.text if is_so else b"", held.session, held.finding, line.asked.block, line.asked.counters)
+            yield Answered(line.text if is_so else b"", held.session, held.finding)
 
 
 def answers(lines: Iterable[bytes], trust: Trust, jobs: int = 1) -> Answers:
@@ -146,12 +140,7 @@ def answers(lines: Iterable[bytes], trust: Trust, jobs: int = 1) -> Answers:
 
     No more lines are held at once than a few chunks. Raises Fault, while lines are taken, at one that is no question.
     """
-    return Answers(lines, trust, jobs, None)
-
-
-def told_answers(lines: Iterable[bytes], trust: Trust, jobs: int) -> Answers:
-    """The same for lines of `ssign questions --once --json`, which say what ssign read in each block."""
-    return Answers(lines, trust, jobs, Told(trust.longest))
+    return Answers(lines, trust, jobs)
 
 
 def add_arguments(parser: argparse.ArgumentParser) -> None:

@@ -1,31 +1,13 @@
 """Reads single lines of questions, in each form in which `ssign questions` writes them (docs/FORMATS.md, "Questions")."""
 from __future__ import annotations
 
-import json
-import re
-from typing import Any, Dict, List, NamedTuple, Optional, Protocol, Tuple
+from typing import List, NamedTuple, Optional, Protocol, Tuple
 
-from .blocks import Block, Counters, Session
 from .encoding import is_base64
 from .faults import Fault
 
-# ssign asks about each payload once, and says what it read in each block
-ONCE = ("--once", "--json")
 # no log has so many sessions
 MOST_DIGITS = 10
-# The line of a payload, which may have 133 MB, is cut and not decoded. Its other octets are as ssign writes them.
-STATED = re.compile(rb'\{"line":"payload","payload_index":([0-9]{1,10}),"payload":"')
-STATED_END = b'"}\n'
-# Most lines are about signature blocks that have the VER and the session of the one before. Only what differs is read: the
-# library takes three times as long. Each line that is spelled otherwise is read by the library.
-NUMBER = rb"(0|[1-9][0-9]{0,9})"
-SIGNED = re.compile(rb'\{"line":"yes","payload_index":' + NUMBER + rb',"octets":"')
-TEXT = rb'"[^"\\]{1,255}"'
-NAMES = rb'("host":' + TEXT + rb',"app":' + TEXT + rb',"procid":' + TEXT + rb',"rsid":' + NUMBER + rb',"ver":' + TEXT + rb')'
-SIGNED_END = re.compile(rb'","signature":"([A-Za-z0-9+/=]*)","place":' + NUMBER + rb"," + NAMES + rb',"sg":' + NUMBER
-                        + rb',"spri":' + NUMBER + rb',"gbc":' + NUMBER + rb',"first":' + NUMBER + rb',"count":' + NUMBER
-                        + rb"\}\n")
-LETTERS = b"ABCDEFGHIJKLMNOPQRSTUVWXYZabcdefghijklmnopqrstuvwxyz0123456789+/="
 
 
 class PayloadText:
@@ -46,12 +28,6 @@ class Asked(NamedTuple):
     payload: PayloadText
     rest: bytes
     """Of a `yes` line OCTETS SIGNATURE; else empty."""
-    session: Optional[Session] = None
-    """The session that it is about, where the line says it."""
-    block: Optional[Block] = None
-    """What the octets of a `yes` line say, where the line says it."""
-    counters: Optional[Counters] = None
-    """The same of a signature block."""
 
 
 class Form(Protocol):
@@ -126,69 +102,6 @@ class Once:
         if index >= len(self._payloads):
             raise Fault(f"line {number}: no payload with the index {index} stands before it")
         return Asked(word == b"yes", self._payloads[index], rest)
-
-
-class Told:
-    """The objects of `--once --json`: each payload stands once, and each question says what ssign read in its block."""
-
-    def __init__(self, most: int) -> None:
-        """Looks at payloads of so many octets at most."""
-        self._most = most
-        self._payloads: List[PayloadText] = []
-        # the last signature block, and the part of its line that has its session and VER, and nothing else
-        self._block: Optional[Block] = None
-        self._spelled = b""
-
-    def read(self, line: bytes, number: int) -> Optional[Asked]:
-        """The question of a line, or None where it states a payload."""
-        try:
-            again = self._read_again(line)
-            if again is not None:
-                return again
-            stated = STATED.match(line)
-            if stated and int(stated[1]) == len(self._payloads) and line.endswith(STATED_END):
-                self._payloads.append(payload_of(line[stated.end():-len(STATED_END)], self._most, number))
-                return None
-            asked = self._question(json.loads(line))
-        except (ValueError, LookupError, TypeError, AttributeError, RecursionError) as fault:
-            raise Fault(f"line {number} is no line of ssign questions --once --json, as it is known here") from fault
-        self._keep(asked, line)
-        return asked
-
-    def _keep(self, asked: Asked, line: bytes) -> None:
-        """Keeps how a signature block is spelled, of which the library has read the whole line."""
-        found = SIGNED_END.search(line) if asked.counters is not None else None
-        if found is not None and asked.block is not None:
-            self._block, self._spelled = asked.block, found[3]
-
-    def _read_again(self, line: bytes) -> Optional[Asked]:
-        """The question of a line that is spelled as the one before; None where it isn't."""
-        front = SIGNED.match(line)
-        if front is None or self._block is None:
-            return None
-        end = line.find(b'"', front.end())
-        found = SIGNED_END.fullmatch(line, end)
-        if found is None or found[3] != self._spelled:
-            return None
-        octets = line[front.end():end]
-        if octets.translate(None, LETTERS):
-            return None
-        counters = Counters(int(found[5]), int(found[6]), int(found[7]))
-        return Asked(True, self._payloads[int(front[1])], b"%s %s" % (octets, found[1]), self._block.session, self._block,
-                     counters)
-
-    def _question(self, told: Dict[str, Any]) -> Asked:
-        """The question of an object."""
-        payload = self._payloads[told["payload_index"]]
-        session = Session(told["host"].encode("ascii"), told["app"].encode("ascii"), told["procid"].encode("ascii"),
-                          b"%d" % told["rsid"])
-        if told["line"] == "trust":
-            return Asked(False, payload, b"", session)
-        if told["line"] != "yes":
-            raise ValueError("another line")
-        counters = Counters(told["sg"], told["spri"], told["gbc"]) if "gbc" in told else None
-        block = Block(told["ver"].encode("ascii"), session)
-        return Asked(True, payload, f"{told['octets']} {told['signature']}".encode("ascii"), session, block, counters)
 
 
 def split(line: bytes, number: int) -> Tuple[bytes, int, bytes]:

@@ -10,7 +10,7 @@ from dataclasses import dataclass, field, replace
 from typing import AbstractSet, BinaryIO, Dict, Iterable, Iterator, List, Optional, Set, Tuple
 
 from .answer import Answered
-from .blocks import Block, Counters, Session
+from .blocks import ANNOUNCING, Session, read_block
 from .encoding import decode
 from .fragments import covers, read_fragment
 from .identity import Finding, Identity, finding_of, note_of
@@ -18,6 +18,8 @@ from .words import shown_name
 from .workplace import put
 
 GroupName = Tuple[int, int]
+# so many letters of base64 have the header of most messages, and what follows it
+FRONT = 1200
 UNSIGNED = Finding(None, "no whole payload was found in it that one of your keys signed")
 
 
@@ -42,19 +44,24 @@ class BlockFacts:
         """Whether validly signed fragments have all of the payload."""
         return self.length > 0 and covers(self.extents, self.length)
 
-    def add(self, line: bytes, block: Block, counters: Optional[Counters]) -> None:
+    def add(self, line: bytes) -> None:
         """Takes a `yes` line into account. A certificate block that doesn't agree with the payload vouches for nothing."""
-        if counters is not None:
-            sg, spri, gbc = counters
-            self.versions.add(block.version.decode("ascii"))
-            self.greatest[sg, spri] = max(gbc, self.greatest.get((sg, spri), 0))
-            self.valid += 1
-            return
-        payload, octets = (decode(it) or b"" for it in line.split(b" ")[1:3])
-        fragment = read_fragment(octets)
-        if fragment is not None and fragment.agrees(payload):
+        _, payload, text, _ = line.split(b" ")
+        # most signature blocks have it in their front, which is a fifth of one
+        for length in (FRONT, len(text)):
+            octets = decode(text[:length]) or b""
+            block = read_block(octets)
+            announcing = block and ANNOUNCING.match(octets, block.end)
+            if block and announcing:
+                sg, spri, gbc = map(int, announcing.group(1, 2, 3))
+                self.versions.add(block.version.decode("ascii"))
+                self.greatest[sg, spri] = max(gbc, self.greatest.get((sg, spri), 0))
+                self.valid += 1
+                return
+        fragment, joined = read_fragment(octets), decode(payload) or b""
+        if fragment is not None and fragment.agrees(joined):
             self.extents.add((fragment.piece[1], len(fragment.piece[2])))
-            self.length = len(payload)
+            self.length = len(joined)
             self.valid += 1
 
 
@@ -68,15 +75,15 @@ def noted(answered: Iterable[Answered], notes: BinaryIO) -> Iterator[Answered]:
     kept: Optional[BlockFacts] = None
     facts: Optional[BlockFacts] = None
     for it in answered:
-        if it.session != session or it.block is None:
+        if it.session != session or not it.is_block:
             kept, facts = better(kept, facts), None
             if it.session != session:
                 put_note(notes, session, kept)
                 session, kept = it.session, None
-        if not it.is_payload:
+        if not it.line.startswith(b"trust "):
             facts = facts or BlockFacts(it.finding)
-            if it.line and it.block is not None:
-                facts.add(it.line, it.block, it.counters)
+            if it.is_block:
+                facts.add(it.line)
         yield it
     put_note(notes, session, better(kept, facts))
 

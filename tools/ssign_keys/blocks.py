@@ -1,7 +1,4 @@
-"""Blocks: what a checker needs to know of the octets that a block's signature covers (RFC 5848, sections 4 and 5).
-
-`ssign questions --json` says it of each block. Where plain questions are answered, it is read from the octets here.
-"""
+"""Blocks: what a checker needs to know of the octets that a block's signature covers (RFC 5848, sections 4 and 5)."""
 from __future__ import annotations
 
 import re
@@ -18,6 +15,10 @@ FIRST_ELEMENT = re.compile(FRONT)
 # After the header nothing but an element begins so: in a value each `"` and `]` is escaped, no name of an element or a
 # parameter holds `]`, and MSG stands after the elements.
 LATER_ELEMENT = re.compile(rb"\]" + FRONT)
+# what follows RSID in the element of a signature block, and of a certificate block (RFC 5848, sections 4.2 and 5.3.2)
+GROUP = rb'SG="([0-3])" SPRI="([0-9]{1,3})" '
+ANNOUNCING = re.compile(GROUP + rb'GBC="([0-9]{1,10})" FMN="([0-9]{1,10})" CNT="([0-9]{1,2})" ')
+CARRYING = re.compile(GROUP + rb'TPBL="')
 
 
 class Session(NamedTuple):
@@ -33,21 +34,13 @@ class Session(NamedTuple):
         return b" ".join(self).decode("ascii", "backslashreplace")
 
 
-class Counters(NamedTuple):
-    """The group of a signature block, and its number among the signature blocks of its session."""
-
-    sg: int
-    spri: int
-    gbc: int
-
-
 class Block(NamedTuple):
     """What the octets of a block say of their signature."""
 
     version: bytes
     session: Session
-    end: int = 0
-    """Where its element goes on after RSID; 0 where nobody looked."""
+    end: int
+    """Where its element goes on after RSID."""
 
 
 def read_block(octets: bytes) -> Optional[Block]:

@@ -8,9 +8,10 @@ from __future__ import annotations
 import subprocess
 from array import array
 from dataclasses import dataclass
+from itertools import chain
 from typing import BinaryIO, Iterator, NamedTuple, Optional, Sequence
 
-from .candidates import Candidates
+from .logs import Log
 from .programs import Run
 from .progress import Progress
 from .report import number_of, wrong
@@ -74,9 +75,9 @@ class Broken:
 class Search:
     """Has ssign inspect those unlisted messages that hold the mark of a block."""
 
-    def __init__(self, candidates: Candidates, unlisted: Sequence[int], progress: Progress) -> None:
+    def __init__(self, log: Log, unlisted: Sequence[int], progress: Progress) -> None:
         """Nothing is found yet."""
-        self._candidates = candidates
+        self._log = log
         self._unlisted = unlisted
         self._progress = progress
         # of each message that is inspected: its place, its length, and how many CR and LF it ends with
@@ -85,21 +86,27 @@ class Search:
         self._ends = bytearray()
 
     def run(self, program: str, words: Sequence[str], workplace: Workplace) -> Broken:
-        """Looks for them, and says what they are."""
+        """Looks for them, and says what they are. If there is none, ssign isn't asked."""
+        marked = self._marked()
+        first = next(marked, None)
+        if first is None:
+            return Broken()
         inspected = workplace.new_file("inspected")
         run = Run(program, ["inspect", *words], workplace, self._progress, subprocess.PIPE, inspected)
-        run.feed(self._marked())
+        run.feed(chain([first], marked))
         run.end(lambda: None)
         return self._read(inspected)
 
     def _marked(self) -> Iterator[bytes]:
         """The unlisted messages that hold the mark, each with its frame or LF."""
         unlisted, index = self._unlisted, 0
-        for place, stored in self._candidates.placed("looking for broken blocks"):
+        if not unlisted:
+            return
+        for place, stored in self._log.candidates("looking for broken blocks", self._progress):
             while index < len(unlisted) and unlisted[index] < place:
                 index += 1
             if index < len(unlisted) and unlisted[index] == place:
-                message = self._candidates.message(stored)
+                message = self._log.bare(stored)
                 self._places.append(place)
                 self._lengths.append(len(message))
                 self._ends.append(line_ends(message[-LAST:]))

@@ -27,10 +27,6 @@ class Question(NamedTuple):
     """Whether it is a `yes` line."""
     rest: bytes
     """What stands after the payload of a `yes` line: OCTETS SIGNATURE."""
-    session: Optional[Session] = None
-    """The session that it is about, where ssign said it."""
-    block: Optional[Block] = None
-    """What the octets of a `yes` line say, where ssign said it."""
 
 
 class ChunkPayload(NamedTuple):
@@ -84,7 +80,7 @@ def is_block_part(rest: bytes) -> bool:
 
 def block_of(question: Question, octets: bytes) -> Block:
     """What the octets of the block say that a `yes` line asks about."""
-    block = question.block or read_block(octets)
+    block = read_block(octets)
     if not block:
         raise Fault(f"line {question.line_number}: the octets are no block of VER {VERSIONS}")
     return block
@@ -152,13 +148,13 @@ def check_block(trust: Trust, question: Question, payload: Optional[bytes]) -> O
 def check_payload(trust: Trust, question: Question, payload: Optional[bytes],
                   following: Sequence[Question]) -> Optional[Held]:
     """Whether a `trust` line holds: for the session of the block that is asked about after it."""
-    session = question.session
-    if not payload:
-        return Held(session, TOO_LONG) if session else None
-    if session is None and following and following[0].is_block and following[0].payload == question.payload:
+    session: Optional[Session] = None
+    if following and following[0].is_block and following[0].payload == question.payload:
         if not is_block_part(following[0].rest):
             raise Fault(no_question(following[0].line_number))
         session = block_of(following[0], decode(following[0].rest.partition(b" ")[0]) or b"").session
+    if not payload:
+        return Held(session, TOO_LONG) if session else None
     try:
         return Held(session, trust.judge(payload, session).finding)
     except Fault as fault:

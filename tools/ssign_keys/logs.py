@@ -49,7 +49,7 @@ class Part:
 class Log:
     """All that was given, as one plain file.
 
-    A frame may begin in one of the logs and end in the next. So where their messages begin is known once `look` was called.
+    A frame may begin in one of the logs and end in the next. So where their messages begin is known once `settle` was called.
     """
 
     def __init__(self, file: BinaryIO, parts: Sequence[Part], are_lines: bool, is_copy: bool) -> None:
@@ -66,6 +66,8 @@ class Log:
         self._seen = look(file)
         self.size = self._seen[0]
         self._sums: List[Tuple[int, str]] = []
+        # those of the octets that ssign was handed
+        self._handed: List[Tuple[int, str]] = []
 
     def rewind(self) -> BinaryIO:
         """The file, from its front on."""
@@ -76,10 +78,19 @@ class Log:
         """Goes over the messages."""
         return Walk(self.file, self.are_lines, gaps=self._damaged())
 
-    def look(self, longest: int) -> Walk:
-        """The same, as far as no message is longer, for whoever hands it to `settle` at its end."""
-        self.longest = longest
-        return Walk(self.file, self.are_lines, gaps=self._gaps(), longest=longest)
+    def candidates(self, phase: str, progress: Progress) -> Iterator[Tuple[int, bytes]]:
+        """The messages that may be blocks, as they are stored, each with its frame or LF, and its place, which rises.
+
+        Which of them are blocks, ssign says. The phase is for a person at a terminal.
+        """
+        walk = self.walk()
+        for it in walk.candidates():
+            yield walk.place, it
+            progress.show(phase, walk.offset, self.size, "octets")
+
+    def bare(self, stored: bytes) -> bytes:
+        """A stored message without its frame or LF."""
+        return stored[:-1] if self.are_lines else stored[stored.index(b" ") + 1:]
 
     def _damaged(self) -> Iterator[Tuple[int, int]]:
         return iter(()) if self.damage is None else self.damage.gaps()
@@ -88,13 +99,21 @@ class Log:
         """What is damaged, and where each log after the first begins."""
         return iter(()) if self.are_lines else heapq.merge(self._damaged(), ((it, 0) for it in self._offsets[1:]))
 
-    def settle(self, walk: Walk) -> None:
-        """Takes over from a walk how many messages stand before each log. Raises ValueError if other messages than ssign says
-        stand before what is damaged."""
+    def settle(self, damage: Optional[Damage], messages: int, torn: Optional[int]) -> None:
+        """Takes over what ssign says is damaged, and learns how many messages stand before each log. Raises ValueError if it has
+        other messages than ssign says. One log of which all octets are messages isn't read for it."""
+        self.damage = damage
+        if torn is None and not damage and len(self.parts) == 1:
+            return
+        walk = Walk(self.file, self.are_lines, gaps=self._gaps())
+        while walk.step(PIECE):
+            pass
+        if walk.place != messages or walk.offset != (self.size if torn is None else torn):
+            raise ValueError(f"it counts {messages} messages, and the log has {walk.place} up to octet {walk.offset}")
         if self.are_lines:
             return
         gaps = list(zip(self._gaps(), itertools.chain(walk.passed, itertools.repeat(walk.place))))
-        if self.damage and [place for (_, length), place in gaps if length] != list(self.damage.places):
+        if damage and [place for (_, length), place in gaps if length] != list(damage.places):
             raise ValueError("other messages stand between damaged octets")
         self._places = [0, *(min(place, walk.place) for (_, length), place in gaps if not length)]
         self.parts = [replace(part, place=place) for part, place in zip(self.parts, self._places)]
@@ -103,14 +122,33 @@ class Log:
         """How far whoever reads the file has come, since a child that was given it moves the same position."""
         return os.lseek(self.file.fileno(), 0, os.SEEK_CUR)
 
-    def hashed(self, progress: Progress) -> Iterator[bytes]:
-        """All octets of a file that others may write to, from the front on. From then on `sums` is about these.
+    def octets(self, progress: Progress) -> Iterator[bytes]:
+        """All octets, from the front on. From then on `sums` is about these, and no others are given a second time.
 
         Whoever maps the file into memory changes it without a trace, so it may hold other octets at each time.
         """
-        hasher = hashlib.sha256()
-        yield from hashed(read_pieces(self.rewind(), self.parts[0].name, "reviewing", progress), hasher)
-        self._sums = [(self.position(), hasher.hexdigest())]
+        sums = []
+        for part, end in self.spans():
+            hasher, at = hashlib.sha256(), part.offset
+            while at < end:
+                piece = self._piece(at, min(PIECE, end - at))
+                if not piece:
+                    raise self.changed()
+                hasher.update(piece)
+                at += len(piece)
+                yield piece
+                progress.show("reviewing", at, self.size, "octets")
+            sums.append((end - part.offset, hasher.hexdigest()))
+        if self._handed and self._handed != sums:
+            raise self.changed()
+        self._sums = self._handed = sums
+
+    def _piece(self, offset: int, size: int) -> bytes:
+        """So many octets from there on, or fewer."""
+        try:
+            return os.pread(self.file.fileno(), size, offset)
+        except OSError as error:
+            raise Fault(f"the log {shown_name(self.parts[0].name)} can't be read: {error.strerror}") from error
 
     def spans(self) -> Iterator[Tuple[Part, int]]:
         """Each part, with the octet at which the next one begins, or the log ends."""

@@ -67,7 +67,7 @@ class Listed:
         self._sums: List[Tuple[int, str]] = []
         self.found: List[Found] = []
         # beside the survey of the report
-        self.extents = Extents()
+        self._extents = Extents()
 
     @classmethod
     def from_arguments(cls, arguments: argparse.Namespace) -> Optional[Listed]:
@@ -96,6 +96,11 @@ class Listed:
             name = "" if part.name == "-" else bare(part.name.rpartition("/")[2])
             self._take(names, Stored(shown_name(part.name), name, size, sha256))
         return [f"{line}\n".encode("ascii") for it in self._entries for line in it.counters]
+
+    def begin_extents(self) -> Extents:
+        """What is handed a report from its front on."""
+        self._extents = Extents()
+        return self._extents
 
     def refuse_other(self, log: Log) -> None:
         """Refuses a log of which other octets were reviewed than were compared."""
@@ -134,7 +139,7 @@ class Listed:
 
     def compare(self) -> int:
         """Compares the sessions and numbers of the entries with those of the report. Gives all findings' number."""
-        reviewed = self.extents.reviewed
+        reviewed = self._extents.reviewed
         nights: Dict[Session, List[Entry]] = {}
         for it in self._entries:
             nights.setdefault(it.session, []).append(it)

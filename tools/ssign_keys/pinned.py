@@ -7,8 +7,7 @@ signed them. It decides by itself which of them claims a session.
 from __future__ import annotations
 
 import base64
-import subprocess
-from typing import Callable, Dict, FrozenSet, Iterable, Iterator, List, NamedTuple, Optional, Sequence, Set, Tuple
+from typing import Callable, Dict, FrozenSet, Iterable, Iterator, List, NamedTuple, Optional, Set, Tuple
 
 from .answer import answers
 from .blocks import Session
@@ -16,8 +15,6 @@ from .encoding import decode
 from .fragments import MARK, Joiner, Piece, read_fragment
 from .keys import Numbers, PublicKey
 from .payloads import state_key
-from .programs import Refused, Run
-from .progress import Progress
 from .trust import Trust, Trusted
 from .words import grouped
 from .workplace import Workplace, finish, put
@@ -48,16 +45,12 @@ class Known(NamedTuple):
 class Search:
     """Looks for such payloads in a log."""
 
-    def __init__(self, program: str, words: Sequence[str], candidates: Callable[[], Iterable[bytes]], are_lines: bool,
-                 workplace: Workplace, progress: Progress) -> None:
+    def __init__(self, candidates: Callable[[], Iterable[bytes]], are_lines: bool, workplace: Workplace) -> None:
         """The log is gone over more than once: each time `candidates` gives the messages that may be blocks, as they are stored,
         each with its frame or LF."""
-        self._program = program
-        self._words = list(words)
         self._candidates = candidates
         self._are_lines = are_lines
         self._workplace = workplace
-        self._progress = progress
         self._sentences: List[str] = []
         # the sessions of which not all was looked at
         self._cut: Set[Session] = set()
@@ -65,9 +58,9 @@ class Search:
         self._disputed: Set[Session] = set()
         self._signed: Set[int] = set()
 
-    def run(self, trust: Trust, jobs: int) -> Known:
-        """What to give to ssign."""
-        disputed = self._disputed = self._find_disputed()
+    def run(self, disputed: Set[Session], trust: Trust, jobs: int) -> Known:
+        """What to give to ssign, where certificate blocks of these sessions contradict each other."""
+        self._disputed = disputed
         if not disputed:
             return Known([], [])
         keys = {session: trust.keys_for(session) for session in disputed}
@@ -94,29 +87,7 @@ class Search:
             return True
         return hash((base64.b64encode(found.octets), found.signature)) in self._signed
 
-    # ---- sessions
-
-    def _find_disputed(self) -> Set[Session]:
-        """The sessions whose certificate blocks contradict each other, by a review of these blocks alone."""
-        report = self._workplace.new_file("disputed")
-        reviewing = Run(self._program, ["review", *self._words], self._workplace, self._progress, subprocess.PIPE, report)
-        reviewing.feed(self._certificates())
-        try:
-            reviewing.end(lambda: None)
-        except Refused:
-            # whoever asks about the log, or reviews it, is refused too, and says so
-            return set()
-        found = set()
-        with report:
-            report.seek(0)
-            for line in report:
-                word, *fields = line.split()
-                # without answers, lines about sessions stand in front, and no other line is between them
-                if word != b"session":
-                    break
-                if fields[4] == b"disputed":
-                    found.add(Session(*fields[:4]))
-        return found
+    # ---- messages
 
     def _certificates(self) -> Iterator[bytes]:
         """The messages that may be certificate blocks, each with its frame or LF."""

@@ -128,10 +128,27 @@ class Run:
                     yield line
         self.end(tick)
 
+    def moments(self, reads: Sequence[int] = (), writes: Sequence[int] = ()) -> Iterator[None]:
+        """Comes once for each moment that it goes on and none of these descriptors is ready. What it says is passed on.
+
+        `wait` of a Popen with a timeout only looks now and then, so it would notice the end late.
+        """
+        try:
+            ends = [os.pidfd_open(self.child.pid)]
+        except (AttributeError, OSError):
+            # an old Linux, or as many files are open as may be
+            ends = []
+        try:
+            while not any(select.select([*ends, *reads], writes, [], PAUSE)) and self.child.poll() is None:
+                self._pass_on()
+                yield
+        finally:
+            for it in ends:
+                os.close(it)
+
     def end(self, tick: Callable[[], None]) -> int:
         """Waits for the end, and gives the status, 0 or 1. Raises Refused or Fault where the run didn't succeed."""
-        for _ in pauses(self.child):
-            self._pass_on()
+        for _ in self.moments():
             tick()
         status = self.child.wait()
         self._pass_on(is_end=True)
@@ -185,36 +202,6 @@ class Run:
             return
         self._progress.clear()
         notify(line)
-
-
-def pauses(child: subprocess.Popen[bytes]) -> Iterator[None]:
-    """Comes once for each moment that a child goes on, and ends when it does.
-
-    `wait` of a Popen with a timeout only looks now and then, so it would notice the end late.
-    """
-    try:
-        descriptor = os.pidfd_open(child.pid)
-    except (AttributeError, OSError):
-        # an older Linux, or as many files are open as may be
-        while not has_ended(child):
-            yield
-        return
-    try:
-        watched = select.poll()
-        watched.register(descriptor, select.POLLIN)
-        while not watched.poll(PAUSE * 1000):
-            yield
-    finally:
-        os.close(descriptor)
-
-
-def has_ended(child: subprocess.Popen[bytes]) -> bool:
-    """Whether a child ends within a moment."""
-    try:
-        child.wait(PAUSE)
-    except subprocess.TimeoutExpired:
-        return False
-    return True
 
 
 HINTS: Dict[int, str] = {

@@ -29,10 +29,10 @@ class Line(NamedTuple):
 class Reader:
     """Takes lines one by one. What is remembered is the last question, and each payload that is stated once."""
 
-    def __init__(self, most: int, form: Optional[Form] = None) -> None:
-        """No line yet. Payloads of so many octets at most are looked at. Without a form the first line says it."""
+    def __init__(self, most: int) -> None:
+        """No line yet. Payloads of so many octets at most are looked at."""
         self._most = most
-        self._form = form
+        self._form: Optional[Form] = None
         self._line_number = 0
         self._last: Optional[Asked] = None
         self._lines: List[Line] = []
@@ -98,8 +98,7 @@ class Reader:
             self._chunk.payloads.append(ChunkPayload(self._payloads, payload.text))
         if is_new or not self._lines or not is_same(asked, self._last):
             self._chunk.questions.append(
-                Question(self._line_number, len(self._chunk.payloads) - 1, asked.is_block, asked.rest, asked.session,
-                         asked.block))
+                Question(self._line_number, len(self._chunk.payloads) - 1, asked.is_block, asked.rest))
         # what is asked about a payload that isn't looked at is no line of an answers file
         kept = asked if payload.text is not None else asked._replace(rest=b"")
         self._lines.append(Line(kept, len(self._chunk.questions) - 1))

@@ -253,7 +253,7 @@ def other_group(case: Case) -> str:
 
 
 def unwritten(case: Case) -> Optional[str]:
-    """W1, of a passing file."""
+    """W1 and Q1, of a passing file or pipe."""
     if hasattr(case.arguments, "logs") or state_name(case):
         return "a passing file can't be written; TMPDIR names the folder for it"
     return None
@@ -262,5 +262,5 @@ def unwritten(case: Case) -> Optional[str]:
 OWN: Dict[str, Callable[[Case], Optional[str]]] = {
     "F1": bad_length, "F2": too_long, "F5": framed, "F9": framed, "P1": broken_off,
     "O6": no_seal, "O7": long_seal, "O8": used_up, "O9": used_up,
-    "A1": own_answers, "A2": own_answers, "A3": long_answers, "C5": no_session, "C6": other_group, "W1": unwritten,
+    "A1": own_answers, "A2": own_answers, "A3": long_answers, "C5": no_session, "C6": other_group, "W1": unwritten, "Q1": unwritten,
 }

@@ -8,19 +8,15 @@ certificate block that the same key signed for an older session looks the same t
 from __future__ import annotations
 
 import argparse
-import re
 from array import array
 from collections import Counter
 from typing import Dict, List, NamedTuple, Set, Tuple
 
-from .blocks import Session, read_block
-from .candidates import Candidates
+from .blocks import ANNOUNCING, CARRYING, Session, read_block
+from .logs import Log
+from .progress import Progress
 from .reach import Reach
 
-# what follows RSID in the element of a signature block, and of a certificate block (RFC 5848, sections 4.2 and 5.3.2)
-GROUP = rb'SG="([0-3])" SPRI="([0-9]{1,3})" '
-ANNOUNCING = re.compile(GROUP + rb'GBC="([0-9]{1,10})" FMN="([0-9]{1,10})" CNT="([0-9]{1,2})" ')
-CARRYING = re.compile(GROUP + rb'TPBL="')
 # HOSTNAME, APP-NAME and PROCID
 Names = Tuple[bytes, bytes, bytes]
 
@@ -68,21 +64,21 @@ def ignored_words(count: int) -> str:
     return f"{count:,} unverified blocks were ignored: they claim joined sessions, aren't validly signed, and change nothing"
 
 
-def count_strangers(candidates: Candidates, refused: "array[int]", joined: Set[Session],
-                    reach: Reach) -> Dict[Session, Claims]:
+def count_strangers(log: Log, refused: "array[int]", joined: Set[Session], reach: Reach,
+                    progress: Progress) -> Dict[Session, Claims]:
     """How many of the blocks at these rising places claim each of these sessions, which go so far."""
     found: Dict[Session, Claims] = {}
     if not refused or not joined:
         return found
     gbcs, numbers = reached(reach, joined)
     index = 0
-    for place, stored in candidates.placed("looking at unverified blocks"):
+    for place, stored in log.candidates("looking at unverified blocks", progress):
         if index == len(refused):
             break
         if refused[index] != place:
             continue
         index += 1
-        octets = candidates.message(stored)
+        octets = log.bare(stored)
         block = read_block(octets)
         if block is None or block.session not in joined:
             continue

@@ -3,10 +3,9 @@ from __future__ import annotations
 
 import argparse
 import os
-import re
 import subprocess
 from itertools import chain
-from typing import TYPE_CHECKING, BinaryIO, Callable, Iterator, List, NamedTuple, Optional, Tuple, Union
+from typing import TYPE_CHECKING, BinaryIO, Iterator, List, NamedTuple, Optional, Tuple, Union
 
 from . import expand as expand_options
 from . import form as forms
@@ -15,13 +14,11 @@ from . import sha1
 from . import stamped as stamp_options
 from . import strangers
 from . import trust as trust_options
-from .agreement import Survey
-from .answer import told_answers
-from .asked import ONCE
-from .damage import Damage
+from .agreement import Survey, messages_of
+from .answer import answers
+from .asking import Asking
 from .blocks import Session
 from .broken_blocks import Broken, Search
-from .candidates import Candidates
 from .counters_file import file_of
 from .defaults import longest
 from .digests import Digest, digest_of
@@ -42,7 +39,7 @@ from .progress import Progress
 from .refusals import fault_of, warn_of_form
 from .report import Reading, ReportVisitor, wrong
 from .reviewed import Details, Reviewed
-from .salvage import SALVAGE, salvage
+from .salvage import SALVAGE
 from .finder import Finder
 from .stamped import NONE, Stamps, check_stamps
 from .trust import Trust
@@ -59,8 +56,8 @@ if TYPE_CHECKING:
 
 # A form that isn't asked for, and what is shown in it, is loaded where it is made: all of them take a fifth of a start.
 TOOL = "ssign-keys"
-# what each block that is a line begins with (RFC 5424, section 6)
-HEAD = re.compile(rb"<[0-9]{1,3}>[0-9]")
+# each payload is written once
+ONCE = "--once"
 
 
 def add_arguments(parser: argparse.ArgumentParser) -> None:
@@ -153,12 +150,11 @@ class Verification:
             trust = Trust.from_arguments(arguments)
             listed = manifest_options.read_listed(arguments)
             log, verifier = self._open(listed, workplace)
-            verifier.answer(trust, arguments.jobs)
-            reviewed = verifier.review(listed, arguments, self._stamps, trust)
+            reviewed = verifier.review(trust, self._stamps)
             if is_detailed(arguments):
                 reviewed = reviewed._replace(details=self._details(verifier, reviewed, trust, listed))
             verifier.name_unused(trust)
-            pieces = verifier.show(reviewed, arguments, listed)
+            pieces = verifier.show(reviewed)
             if arguments.html is not None:
                 page_file.prepare(verifier.page_path)
             if arguments.counters_out is not None:
@@ -178,15 +174,13 @@ class Verification:
         # of the octets that were read for this check, before anything else is put after them
         self._stamps = check_stamps(arguments, missing.digest, None if listed is None else listed.digest, workplace)
         log = self._log = open_log(arguments.logs, named_form, workplace, progress, arguments.max_expanded)
-        if named_form is None and log.are_lines and are_damaged_frames(log, program, arguments, workplace, progress):
-            log.are_lines = False
+        log.longest = longest(arguments)
         warn_of_form(log)
         if listed is not None:
             missing = add_counters(missing, listed.look(log), workplace)
             if arguments.from_manifest:
                 missing = add_begin(missing, listed.begin(), workplace)
-        candidates = Candidates(log, longest(arguments), workplace, progress)
-        return log, Verifier(program, log_words(arguments, log.are_lines), missing, log, candidates, workplace, progress)
+        return log, Verifier(program, arguments, missing, log, listed, workplace, progress)
 
     def _details(self, verifier: Verifier, reviewed: Reviewed, trust: Trust, listed: Optional[Listed]) -> Details:
         """What was checked, and the times of the log."""
@@ -222,119 +216,149 @@ class Missing(NamedTuple):
 
 
 class Verifier:
-    """The runs of ssign over a log, with what is kept of them."""
+    """The runs of ssign over a log, with what is kept of them. For most logs one run is all."""
 
-    def __init__(self, program: str, words: List[str], missing: Missing, log: Log, candidates: Candidates, workplace: Workplace,
-                 progress: Progress) -> None:
+    def __init__(self, program: str, arguments: argparse.Namespace, missing: Missing, log: Log, listed: Optional[Listed],
+                 workplace: Workplace, progress: Progress) -> None:
         self._program = program
-        self._words = words
+        self._arguments = arguments
         self.missing = missing
         self._log = log
+        self._listed = listed
         self._workplace = workplace
         self._progress = progress
         self.answers_path = workplace.path("answers")
         self.page_path = workplace.path("page")
-        self._report = workplace.new_file("report")
-        self._candidates = candidates
+        # of the last review
+        self._report: BinaryIO = workplace.new_file("report")
+        self._status = 0
+        # what is to be said of questions that weren't looked at
+        self._unlooked: List[str] = []
         # how many blocks have a valid signature
         self._valid = 0
         # the payloads that are known beforehand
         self._known = Known([], [])
         self._owners: Optional[Owners] = None
+        self._take_form()
 
-    def answer(self, trust: Trust, jobs: int) -> None:
-        """Has ssign ask, and keeps what holds as the answers file, and what valid blocks vouch for as notes."""
-        try:
-            self._look()
-            self._known = self._find_known(trust, jobs)
-            words = ["questions", *ONCE, *self._known.words, *self._words]
-            asks = self._known.asks if self._known.words else None
-            self._keep(self._candidates.run(self._program, words, subprocess.PIPE, asks), trust, jobs)
-        except Refused as refused:
-            self._refuse(refused)
-            raise
-        self._log.check_unchanged()
+    def _take_form(self) -> None:
+        """Has ssign read the log in its form. Frames are read on after damage."""
+        are_lines = self._log.are_lines
+        self._words = [*log_words(self._arguments, are_lines), *([] if are_lines else [SALVAGE])]
 
-    def _look(self) -> None:
-        """Goes over the log. If it isn't whole frames up to its end, ssign says what is damaged.
-
-        If nothing of it can be read, it is reviewed as it stands, so that it is refused for what it is.
-        """
+    def review(self, trust: Trust, stamps: Stamps) -> Reviewed:
+        """Has ssign review the log, and sees that all that is known of it agrees."""
         log = self._log
-        if log.are_lines:
-            self._candidates.look()
-            return
-        log.damage = Damage()
-        self._words.append(SALVAGE)
-        if self._candidates.look():
-            return
-        found = salvage(log, self._program, self._words, self._workplace, self._progress)
-        log.damage = found.damage
-        if not found.is_log:
-            log.damage = None
-            self._words.remove(SALVAGE)
-        self._candidates.look()
-        if found.is_log and found.messages != self._candidates.walked.messages:
-            raise wrong(f"ssign inspect counts {found.messages} messages, and the log has {self._candidates.walked.messages}")
-
-    def _find_known(self, trust: Trust, jobs: int) -> Known:
-        """The payloads that are known beforehand, by what the reviewer trusts."""
-        def candidates() -> Iterator[bytes]:
-            return self._candidates.each("looking for certificate blocks")
-
-        search = KnownSearch(self._program, self._words, candidates, self._log.are_lines, self._workplace, self._progress)
-        known = search.run(trust, jobs)
-        for sentence in known.sentences:
+        survey = self._survey_first(trust)
+        try:
+            log.settle(survey.damage if survey.is_salvaged else None, survey.totals.messages, survey.totals.torn)
+        except ValueError as fault:
+            raise wrong(str(fault)) from fault
+        if survey.disputed:
+            survey = self._survey_disputed(survey, trust)
+        for sentence in [*self._known.sentences, *self._unlooked]:
             self._progress.clear()
             notify(f"ssign-keys: {sentence}")
-        return known
+        return self._reviewed(survey, trust, stamps)
 
-    def _keep(self, asking: Run, trust: Trust, jobs: int) -> None:
-        """Answers the questions of a run, and keeps the answers, and what they vouch for."""
+    def _survey_first(self, trust: Trust) -> Survey:
+        """Has ssign review the log. If that is of another form than its first octets are, it is reviewed again in this one."""
+        log, refusal = self._log, None
+        survey: Optional[Survey] = None
+        try:
+            survey = self._ask(trust)
+        except Refused as refused:
+            if not log.are_lines:
+                raise
+            refusal = refused
+        if (survey is None or not survey.has_blocks) and self._are_damaged_frames():
+            log.are_lines = False
+            self._take_form()
+            survey, refusal = self._ask(trust), None
+        if survey is None:
+            assert refusal is not None
+            raise refusal
+        if survey.totals.damaged and not survey.totals.messages:
+            # nothing of it can be read, so that it is refused for what it is
+            self._words.remove(SALVAGE)
+            survey = self._ask(trust)
+        return survey
+
+    def _ask(self, trust: Trust) -> Survey:
+        """Has ssign review the log in one run, which asks and is answered. Keeps the answers, and the report."""
+        self._report = self._workplace.new_file("report")
+        try:
+            with Asking(self._program, [*self.missing.words, *self._words], self._workplace, self._progress, self._report) as asking:
+                asking.feed(self._log.octets(self._progress))
+                self._keep(asking.questions(), trust)
+                with open(self.answers_path, "rb") as kept:
+                    asking.answer(kept)
+                status = asking.end(lambda: None)
+        except Refused:
+            # a log that was cut meanwhile may be refused for that alone
+            self._log.check_unchanged()
+            raise
+        return self._survey(status)
+
+    def _keep(self, lines: Iterator[bytes], trust: Trust) -> None:
+        """Answers questions, and keeps the answers, and what they vouch for as notes."""
+        self._valid = 0
         with self._workplace.new_file("answers") as file, self._workplace.new_file("notes") as notes, \
-                told_answers(asking.lines(lambda: None), trust, jobs) as answered:
+                answers(lines, trust, self._arguments.jobs) as answered:
             for count, it in enumerate(noted(answered, notes), 1):
                 put(file, it.line)
-                self._valid += it.line.startswith(b"yes ")
+                self._valid += it.is_block
                 self._progress.show("checking signatures", count, 0, "valid blocks")
             finish(file)
             finish(notes)
-        for sentence in answered.counts.sentences():
-            self._progress.clear()
-            notify(f"ssign-keys: {sentence}")
+        self._unlooked = answered.counts.sentences()
 
-    def _refuse(self, refused: Refused) -> None:
-        """Has the whole log refused that was refused already by the messages that may be blocks.
-
-        What is wrong stands at another octet of the whole, or in front of it something else is wrong.
-        """
-        if (refused.code or "").startswith("F"):
-            self._review([])
-
-    def review(self, listed: Optional[Listed], arguments: argparse.Namespace, stamps: Stamps, trust: Trust) -> Reviewed:
-        """Has ssign review the log under the answers that were kept, and sees that all that is known of it agrees."""
-        status = self._review([f"--answers={self.answers_path}", *self._known.words, *self.missing.words],
-                              not self._log.is_copy and (listed is not None or is_detailed(arguments)))
+    def _survey(self, status: int) -> Survey:
+        """Goes over the report, and refuses one that can't be right."""
+        # and one of a log that was written on is of another log
+        self._log.check_unchanged()
+        listed, missing = self._listed, self.missing
+        messages = messages_of(self._report)
+        survey = Survey(messages, self._read_notes(), bool(missing.words), missing.counters, missing.begin, SALVAGE in self._words)
+        beside: List[ReportVisitor] = []
         if listed is not None:
             listed.refuse_other(self._log)
-        is_whole, counters, begin = bool(self.missing.words), self.missing.counters, self.missing.begin
-        walked = self._candidates.walked
-        survey = Survey(walked, self._read_notes(), is_whole, counters, begin)
-        beside: List[ReportVisitor] = [] if listed is None else [listed.extents]
-        if is_detailed(arguments):
+            beside.append(listed.begin_extents())
+        if is_detailed(self._arguments):
             from .times import Owners
-            self._owners = Owners(survey, walked.messages)
+            self._owners = Owners(survey, messages)
             beside.append(self._owners)
         Reading(survey, *beside).read(self._report, self._progress)
         survey.check(status, self._valid)
-        facts = Facts(status, survey.totals, survey.states, survey.missing or 0, survey.reach.coverage(),
-                      self._broken_blocks(survey), 0 if listed is None else listed.compare(),
-                      survey.on_sha1, arguments.allow_sha1, begin is not None, stamps.sentences,
-                      strangers.count_strangers(self._candidates, survey.refused, survey.joined, survey.reach),
+        self._status = status
+        return survey
+
+    def _survey_disputed(self, survey: Survey, trust: Trust) -> Survey:
+        """Has ssign review the log again, where sessions are disputed, under the payloads that the reviewer's keys signed."""
+        def candidates() -> Iterator[bytes]:
+            return (it for _, it in self._log.candidates("looking for certificate blocks", self._progress))
+
+        search = KnownSearch(candidates, self._log.are_lines, self._workplace)
+        known = self._known = search.run(survey.disputed, trust, self._arguments.jobs)
+        if known.words:
+            asking = self._run(["questions", ONCE, *known.words], subprocess.PIPE)
+            asking.feed(filter(known.asks, candidates()))
+            self._keep(asking.lines(lambda: None), trust)
+            self._report = self._workplace.new_file("report")
+            self._status = self._read_again("review", self.missing.words, self._report)
+        return self._survey(self._status)
+
+    def _reviewed(self, survey: Survey, trust: Trust, stamps: Stamps) -> Reviewed:
+        """What there is to show."""
+        log, arguments, missing = self._log, self._arguments, self.missing
+        claims = strangers.count_strangers(log, survey.refused, survey.joined, survey.reach, self._progress)
+        facts = Facts(self._status, survey.totals, survey.states, survey.missing or 0, survey.reach.coverage(),
+                      self._broken_blocks(survey), 0 if self._listed is None else self._listed.compare(),
+                      survey.on_sha1, arguments.allow_sha1, missing.begin is not None, stamps.sentences, claims,
                       arguments.ignore_strangers, survey.has_others, [shown_name(it) for it in trust.unbound_files(survey.joined)],
                       dict(survey.other_keys), trust.given_words)
-        finder = Finder(self._log, self._progress)
-        return Reviewed(self._log, finder, self._read_notes(), survey, facts, is_whole, counters, begin)
+        return Reviewed(log, Finder(log, self._progress), self._read_notes(), survey, facts, bool(missing.words), missing.counters,
+                        missing.begin)
 
     def _read_notes(self) -> Notes:
         """What was kept of the sessions, from the first."""
@@ -347,34 +371,24 @@ class Verifier:
         return Times(self._log, self._owners, self._progress)
 
     def _broken_blocks(self, survey: Survey) -> Broken:
-        """What holds the mark of a block and is none. In most logs there is nothing more to look for."""
-        if self._candidates.walked.marked == survey.verified + survey.totals.refused + survey.totals.spoilt:
-            return Broken()
-        search = Search(self._candidates, survey.unlisted, self._progress)
-        return search.run(self._program, self._words, self._workplace)
+        """What holds the mark of a block and is none."""
+        return Search(self._log, survey.unlisted, self._progress).run(self._program, self._words, self._workplace)
 
     def count(self) -> str:
-        """Has ssign count how far each session went, which its blocks alone say. Gives the path of the counters file."""
+        """Has ssign count how far each session went. Gives the path of the counters file."""
         with self._workplace.new_file("counted") as file:
-            words = ["counters", f"--answers={self.answers_path}", *self._known.words, *self._words]
-            self._candidates.run(self._program, words, file).end(lambda: None)
+            self._read_again("counters", [], file)
         return self._workplace.path("counted")
 
-    def _review(self, words: List[str], is_hashed: bool = False) -> int:
-        """Has ssign review the log, with these words besides. Where its SHA-256 is shown, it is that of what ssign is handed."""
-        reviewing = Run(self._program, ["review", *words, *self._words], self._workplace, self._progress,
-                        subprocess.PIPE if is_hashed else self._log.rewind(), self._report)
-        try:
-            if is_hashed:
-                reviewing.feed(self._log.hashed(self._progress))
-            status = reviewing.end(self._reading("reviewing"))
-        except Refused:
-            # a log that was cut meanwhile may be refused for that alone
-            self._log.check_unchanged()
-            raise
-        # and the report of one that was written on is of another log
-        self._log.check_unchanged()
-        return status
+    def _read_again(self, command: str, words: List[str], out: BinaryIO) -> int:
+        """Has ssign read the log once more, under the answers that were kept. Gives the status."""
+        run = self._run([command, f"--answers={self.answers_path}", *self._known.words, *words], out)
+        run.feed(self._log.octets(self._progress))
+        return run.end(lambda: None)
+
+    def _run(self, words: List[str], out: Union[BinaryIO, int]) -> Run:
+        """A run of ssign that is handed messages of the log."""
+        return Run(self._program, [*words, *self._words], self._workplace, self._progress, subprocess.PIPE, out)
 
     def name_unused(self, trust: Trust) -> None:
         """Says which --session-key names no session of the log, because a name that was mistyped restricts nothing."""
@@ -390,8 +404,9 @@ class Verifier:
             self._progress.clear()
             notify(f"ssign-keys: the log has no session '{it.pattern}', for which --session-key gives a key")
 
-    def show(self, reviewed: Reviewed, arguments: argparse.Namespace, listed: Optional[Listed]) -> Iterator[bytes]:
+    def show(self, reviewed: Reviewed) -> Iterator[bytes]:
         """Makes the page, and gives the pieces of what is to be printed. All is made first; the report is read once."""
+        arguments, listed = self._arguments, self._listed
         pages = [] if arguments.html is None else [self._page(reviewed, listed)]
         if arguments.raw:
             self._notify(reviewed.facts, arguments, listed)
@@ -436,20 +451,18 @@ class Verifier:
         # the form reads them at the same time
         return Page(reviewed._replace(notes=self._read_notes()), found)
 
-    def _reading(self, phase: str) -> Callable[[], None]:
-        return lambda: self._progress.show(phase, self._log.position(), self._log.size, "octets")
-
-
-def are_damaged_frames(log: Log, program: str, arguments: argparse.Namespace, workplace: Workplace,
-                       progress: Progress) -> bool:
-    """Whether a log begins as lines do, has no block among them, and blocks as frames: then its first length is damaged."""
-    if len(log.parts) > 1 or any(HEAD.match(it) and len(it) - 1 <= longest(arguments) for it in log.walk().candidates()):
-        return False
-    try:
-        return salvage(log, program, [SALVAGE, *log_words(arguments, False)], workplace, progress).blocks > 0
-    except Refused:
-        # whoever reads it as lines is refused too
-        return False
+    def _are_damaged_frames(self) -> bool:
+        """Whether a log that begins as lines do has blocks as frames: then its first length is damaged."""
+        log = self._log
+        if not log.are_lines or self._arguments.lines or len(log.parts) > 1:
+            return False
+        words = ["inspect", "--findings", SALVAGE, *log_words(self._arguments, False)]
+        inspecting = Run(self._program, words, self._workplace, self._progress, log.rewind(), subprocess.PIPE)
+        try:
+            return sum(it.startswith((b"signature ", b"certificate ")) for it in inspecting.lines(lambda: None)) > 0
+        except Refused:
+            # whoever reads it as lines is refused too
+            return False
 
 
 def is_detailed(arguments: argparse.Namespace) -> bool:

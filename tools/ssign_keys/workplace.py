@@ -114,6 +114,17 @@ class Workplace:
         except OSError as error:
             raise no_room(error) from error
 
+    def pipe(self, name: str) -> str:
+        """The path of a named pipe that is made anew."""
+        path = self.path(name)
+        try:
+            with contextlib.suppress(FileNotFoundError):
+                os.remove(path)
+            os.mkfifo(path)
+        except OSError as error:
+            raise no_room(error) from error
+        return path
+
     def start(self, words: Sequence[str], stdin: Stream, stdout: Stream, stderr: Optional[Stream],
               env: Optional[Mapping[str, str]] = None, has_group: bool = False) -> subprocess.Popen[bytes]:
         """Starts a program, which is ended with the block, where it hasn't ended by itself. Raises as Popen does.
