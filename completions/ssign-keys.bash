@@ -181,7 +181,7 @@ _ssign_keys_words() {
     live) _ssign_keys_offer words '--help --state --out --new-session --keep-session --omprog --messages --seconds --rotate-size --rotate-daily --heartbeat --wrap --no-wrap --stamp-command --tsa --tsa-seconds --status --key --seal-command --public --tsa-ca --tsa-ca-anchor --lines --journal --host --app --procid --msgid --pri --payload --ver --groups --count --frag --copies --manifest --ssign' ;;
     verify)
         if [[ $2 == -* ]]; then
-            _ssign_keys_offer words '--help --manifest-seen --key --session-key --ca --ca-anchor --cert --at-signing-time --allow-sha1 --ignore-strangers --tsa-ca --tsa-ca-anchor --lines --frames --max-len --max-messages --max-expanded --max-payload --whole --from --counters --nights --manifest --from-manifest --manifest-last --stamped --findings --details --hostname --raw --json --html --answers-out --counters-out --jobs --ssign'
+            _ssign_keys_offer words '--help --any-order --manifest-seen --key --session-key --ca --ca-anchor --cert --at-signing-time --allow-sha1 --ignore-strangers --tsa-ca --tsa-ca-anchor --lines --frames --max-len --max-messages --max-expanded --max-payload --whole --from --counters --nights --manifest --from-manifest --manifest-last --stamped --findings --details --hostname --raw --json --html --answers-out --counters-out --jobs --ssign'
         else
             _ssign_keys_offer files
         fi

@@ -91,6 +91,7 @@ complete -c ssign-keys -n '__ssign_keys_command live' -l manifest -r -F -d 'the 
 complete -c ssign-keys -n '__ssign_keys_command live' -l ssign -r -F -d 'the program ssign (default'
 complete -c ssign-keys -n __ssign_keys_command -a verify -d 'Say what a signed log proves, with the originator\'s public key'
 complete -c ssign-keys -n '__ssign_keys_command verify' -l help -s h -d 'show this help message and exit'
+complete -c ssign-keys -n '__ssign_keys_command verify' -l any-order -d 'take messages in any order'
 complete -c ssign-keys -n '__ssign_keys_command verify' -l manifest-seen -x -d 'the last entry of the manifest when it was checked before, as `manifest check` prints it'
 complete -c ssign-keys -n '__ssign_keys_command verify' -l key -r -F -d 'an originator\'s public key, which you got by another way than with the log'
 complete -c ssign-keys -n '__ssign_keys_command verify' -l session-key -r -F -d 'the key of a session, which is named HOST APP PROCID RSID as in a report'

@@ -214,6 +214,25 @@ def twisted(clean: Report) -> Iterator[Lie]:
     yield Lie("more sessions than blocks", "clean", joined(
         [*(b"session a%d b - 1 joined" % it for it in range(9)), *clean.lines]), 0)
     yield Lie("a joined session in an empty log", "empty", joined([joined_line, b"end 0"]), 0)
+    yield from of_order(clean)
+
+
+def of_order(clean: Report) -> Iterator[Lie]:
+    """Reports whose lines about the order can't be true. The log has ten messages."""
+    last = next(it for it in clean.lines if it.startswith(b"ok gate signer - 1 0 0 10 "))
+    front, place = b"disorder gate signer - 1 0 0 ", last.split(b" ")[-1]
+    for name, line in {
+        "no message": b"0 2 3", "all messages": b"10 2 3", "the first number": b"1 1 3", "a number after the last": b"1 11 3",
+        "a field too few": b"1 2", "a field too many": b"1 2 3 4", "a field that is no number": b"1 x 3",
+    }.items():
+        yield Lie(f"order: {name}", "clean", clean.edited(last, last + b"\n" + front + line), 1)
+    right = b"\n" + front + b"1 10 " + place
+    yield Lie("order: another group", "clean", clean.edited(last, last + right.replace(b" 0 0 1 ", b" 0 1 1 ")), 1)
+    yield Lie("order: another session", "clean", clean.edited(last, last + right.replace(b" - 1 ", b" - 2 ")), 1)
+    yield Lie("order: twice", "clean", clean.edited(last, last + right + right), 1)
+    yield Lie("order: before the last number", "clean", clean.edited(last, right[1:] + b"\n" + last), 1)
+    yield Lie("order: before the first number", "clean", clean.edited(b" joined", b" joined" + right), 1)
+    yield Lie("order: no finding", "clean", clean.edited(last, last + right), 0)
 
 
 def malformed(clean: Report) -> Iterator[Lie]:

@@ -131,6 +131,13 @@ head -c -2 first.frames >torn.frames
 page torn-between 1 --key key.pem torn.frames second.frames.gz
 page unsigned 1 --key key.pem unsigned.frames
 page empty 1 --key key.pem empty.frames
+page turned 1 --key key.pem turned.frames
+page any-order 0 --key key.pem --any-order turned.frames
+# twelve sessions that the counters name, and of which no block is here: number N has N messages
+for each in $(seq 12); do counted+=("h gone - $each 1" "h gone - $each 0 0 $((each + 1))"); done
+counters_of "${counted[@]}" >beyond
+page gone 1 --key key.pem --counters beyond signed
+holds 'sessions that are gone: the longest lead' grep -qF '<strong>12 sessions are gone</strong>: <bdi>h gone - 12</bdi>, 12 messages and 1 signature block of it, by the counters; <bdi>h gone - 11</bdi>, ' gone.html
 page several 0 --session-key 'gate.example.org * * *' key.pem --hostname --counters counters first.frames second.frames.gz
 holds 'a message that was likely changed stands in a table of its own' grep -q '<table id="changed-or-replaced"' changed.html
 holds 'each sheet of paper names the log' grep -qF "content:\"cut.frames, SHA-256 $(sha256sum <cut.frames | cut -d ' ' -f 1)\"" cut.html
@@ -270,7 +277,7 @@ else
             "file://$scratch/$1" >dom.html 2>browser.log
         holds "in Chromium: $1" text browser browser.log net.json shot.png "$2"
     }
-    for each in clean changed cut stranger hostile; do
+    for each in clean changed cut turned any-order gone stranger hostile; do
         browse "$each.html" fine
         holds "in Chromium: the text of $each.html" text same "$each.json" dom.html
     done

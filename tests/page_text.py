@@ -41,8 +41,11 @@ ROWS, NAMED, TOP = 200, 3, 12
 # the kinds that a strip draws, the lowest first
 DRAWN = ("verified", "listed", "missing", "changed or replaced", "missing up to the counters", "disputed", "unannounced",
          "unlisted", "unverified", "spoilt", "damaged")
-KINDS = ("missing", "changed or replaced", "missing up to the counters", "unlisted", "unannounced", "missing blocks", "disputed",
+KINDS = ("gone", "missing", "changed or replaced", "missing up to the counters", "unlisted", "unannounced", "missing blocks", "disputed",
          "early", "beyond", "out of order", "damaged", "torn", "manifest", "not joined", "SHA-1", "unverified", "strangers", "spoilt")
+# those whose rows count as one each, and those of them that the first box names
+SINGLE = ("gone", "out of order", "damaged", "torn", "manifest", "not joined", "SHA-1", "strangers")
+LED = {"gone": "session", "out of order": "group"}
 
 
 class Node:
@@ -237,9 +240,13 @@ def sorted_rows(objects: List[Dict[str, Any]]) -> Dict[str, List[Row]]:
     stored = {it["place"]: it for it in objects if it["line"] == "unlisted"}
     places, taken, is_in_hole = sorted(stored), set(), set()
     has_one_group = len(objects[-1]["groups"]) == 1
+    gone = {whose(it, False): [0, 0] for it in objects if it["line"] == "session" and it["state"] == "absent"}
     for it in objects:
         line = it["line"]
         assert "count" not in it or "first" not in it or it["count"] == it["last"] - it["first"] + 1, it
+        if line in ("tail", "blocks") and whose(it, False) in gone:
+            gone[whose(it, False)][line == "blocks"] += it["last"] - it["first"] + 1
+            continue
         where = "" if "first" not in it or line == "blocks" else \
             numbers(it["first"], it["last"]) + ("" if has_one_group else f" of {whose(it)}")
         if line == "session":
@@ -272,9 +279,13 @@ def sorted_rows(objects: List[Dict[str, Any]]) -> Dict[str, List[Row]]:
         elif line == "manifest":
             rows[line].append(Row(1, it["where"], what=it["what"]))
     take_places(objects, taken | is_in_hole, len(objects[0]["files"]) == 1, rows)
+    for name, (messages, blocks) in gone.items():
+        rows["gone"].append(Row(messages, name, what=f"{grouped(messages, 'message')} and {grouped(blocks, 'signature block')} of it, by the counters"))
     for it in objects[-1]["groups"]:
         if it["out_of_order"]:
-            rows["out of order"].append(Row(1, whose(it), what=None))
+            stand = grouped(it["out_of_order"], "listed message stands", "listed messages stand")
+            rows["out of order"].append(Row(it["out_of_order"], whose(it), what=f"{stand} in front of the one with the number before, "
+                                            f"first number {it['first_out_of_order']} at place "))
     return {kind: sorted(its, key=lambda row: -row.length) for kind, its in rows.items() if its}
 
 
@@ -288,7 +299,7 @@ def take_session(it: Dict[str, Any], rows: Dict[str, List[Row]]) -> None:
             if it["strangers"] == 1 else f"{it['strangers']:,} blocks claim this session and aren't validly signed; " \
             "they were left out and change nothing"
         rows["strangers"].append(Row(1, name, what=words))
-    if it["state"] != "joined":
+    if it["state"] not in ("joined", "absent"):
         rows["not joined"].append(Row(1, name, what=None))
 
 
@@ -321,9 +332,12 @@ def check_same(objects: List[Dict[str, Any]], page: Node) -> None:
     """Compares a page with the objects of the same check."""
     checked, verdict = objects[0], objects[-1]
     assert page.one("span", "id", "sentence").text() == verdict["verdict"], page.one("span", "id", "sentence").text()
-    word = "Clean" if verdict["status"] == 0 else "Findings" if verdict["listed"] else "Nothing is shown"
+    is_other_order = any(it["out_of_order"] for it in verdict["groups"])
+    word = "Findings" if verdict["listed"] else "Nothing is shown"
+    word = word if verdict["status"] else "Clean, but out of order" if is_other_order else "Clean"
     box = page.one("div", "id", "verdict")
-    assert next(box.all("strong")).text()[2:] == word and box.attributes["class"] == f"verdict {'bad' if verdict['status'] else 'good'}"
+    assert next(box.all("strong")).text()[2:] == word
+    assert box.attributes["class"] == f"verdict {'bad' if verdict['status'] else 'odd' if is_other_order else 'good'}"
     rows = sorted_rows(objects)
     check_leads(rows, box, objects)
     for kind, its in rows.items():
@@ -332,12 +346,12 @@ def check_same(objects: List[Dict[str, Any]], page: Node) -> None:
         name for it, its in rows.items() for name in (it.replace("-", " "), f"{it} more") if name == it or len(its) > TOP}
     check_files(checked, page)
     check_sessions(objects, rows, page)
-    check_uncovered(verdict, page)
+    check_uncovered(verdict, page, "--any-order" in checked["options"])
     repeat = page.one("pre", "id", "repeat").text()
     assert repeat.endswith(f"echo $?    # {verdict['status']}\n") and all(it["sha256"] in repeat for it in checked["files"])
 
 
-def check_uncovered(verdict: Dict[str, Any], page: Node) -> None:
+def check_uncovered(verdict: Dict[str, Any], page: Node, is_any_order: bool) -> None:
     """What the page says that the verdict doesn't cover."""
     text = next(it for it in page.all("section") if any(head.text() == "What the verdict doesn't cover" for head in it.all("h2"))).text()
     assert ("No counters were given." in text) == ("missing_up_to_counters" not in verdict), text
@@ -347,7 +361,14 @@ def check_uncovered(verdict: Dict[str, Any], page: Node) -> None:
     # a few groups are shown
     for it in verdict["groups"][:8]:
         assert whose(it) + ": " in text, (it, text)
-    assert "Whoever holds the private key can change the log and sign it again." in text
+    has_counters = "missing_up_to_counters" in verdict
+    assert ("A group or a session that the counters don't name may be gone as a whole." in text) == has_counters, text
+    assert ("Neither does a group or a session that is gone as a whole." in text) == (not has_counters), text
+    assert ("Messages were taken in any order: --any-order." in text) == is_any_order, text
+    for it in ("Whoever holds the private key can change the log and sign it again.", "If an RSID was used twice with the same names",
+               "How messages of two groups, or of two sessions, stood to each other isn't signed.",
+               "No signature shows that a clock was right, or when something was signed."):
+        assert it in text, (it, text)
 
 
 def check_leads(rows: Dict[str, List[Row]], box: Node, objects: List[Dict[str, Any]]) -> None:
@@ -357,9 +378,12 @@ def check_leads(rows: Dict[str, List[Row]], box: Node, objects: List[Dict[str, A
     total = {"damaged": objects[-1].get("damaged", 0)}
     for lead, kind in zip(leads, (it for it in KINDS if it in rows)):
         its = rows[kind]
-        count = total.get(kind) or sum(it.length for it in its)
+        count = total.get(kind) or (len(its) if kind in SINGLE else sum(it.length for it in its))
         assert lead.startswith(f"{count:,} ") and lead.endswith("."), (kind, lead)
-        if kind in ("out of order", "damaged", "torn", "manifest", "not joined", "SHA-1", "strangers"):
+        if kind in LED:
+            assert all(f"{it.where}, {it.what}" in lead for it in its[:NAMED]), (kind, lead)
+            assert (f"; and {grouped(len(its) - NAMED, 'more ' + LED[kind])}" in lead) == (len(its) > NAMED), lead
+        if kind in SINGLE:
             continue
         at = 0
         for it in its[:NAMED]:
@@ -373,7 +397,7 @@ def check_leads(rows: Dict[str, List[Row]], box: Node, objects: List[Dict[str, A
 
 def check_kind(kind: str, rows: List[Row], page: Node, is_one_file: bool) -> None:
     """The table of a kind: its first rows, and the others, folded."""
-    count = len(rows) if kind == "damaged" else sum(it.length for it in rows)
+    count = len(rows) if kind in SINGLE else sum(it.length for it in rows)
     assert any(it.text() == f"{kind[0].upper()}{kind[1:]} ({count:,})" for it in page.all("h2")), (kind, count)
     name, shown = kind.replace(" ", "-"), []
     for its in page.all("table"):

@@ -103,6 +103,19 @@ holds 'many runs of missing numbers: the first lines name three' cmp <(sed 6q ou
     '  missing: number 2' '  missing: number 4' '  missing: number 6' '  and 5,497 more, none of them longer')
 holds 'many runs of missing numbers: no eleventh' test "$(grep -c '^    missing: ' out)" = 10
 
+# 12 sessions that the counters name, and of which no block is here: number N has N messages
+for rsid in $(seq 12); do counted+=("h gone - $rsid 1" "h gone - $rsid 0 0 $((rsid + 1))"); done
+counters_of "${counted[@]}" >counters
+verify "${key[@]}" --counters counters made/signed
+says 'sessions that are gone' 1 'Session: HOSTNAME h, APP-NAME gone, PROCID -, RSID 12'
+holds 'sessions that are gone: the longest stand before the list' cmp <(sed 6q out) <(printf '%s\n' "$(tail -n 1 out)" 'The longest runs of each kind:' \
+    '  gone: h gone - 12: 12 messages and 1 signature block of it, by the counters' '  gone: h gone - 11: 11 messages and 1 signature block of it, by the counters' \
+    '  gone: h gone - 10: 10 messages and 1 signature block of it, by the counters' '  and 9 more, none of them longer')
+holds 'sessions that are gone: what is missing of them is no other kind' test "$(grep -c '^  missing up to' out)" = 0
+counters_of "${counted[@]:22}" >counters
+verify "${key[@]}" --counters counters made/signed
+holds 'one session that is gone: in a short text its list says it' test "$status.$(grep -c '^The longest' out).$(grep -c '^  state: absent' out)" = 1.0.1
+
 # 30 sessions under a stranger's key, of which ten are shown, and one that is clean
 for rsid in $(seq 30); do
     "$keys_program" sign --key other/private-key.pem --host gate --app stranger --rsid "$rsid" --lines - <<<'<13>1 - - - - - - x'

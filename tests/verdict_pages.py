@@ -60,6 +60,7 @@ def make(folder: str) -> None:
     write(f"{folder}/second.frames.gz", gzip.compress(b"".join(map(frame, stored[plain[6]:])), mtime=0))
     put("lost.frames", [it for place, it in enumerate(stored) if place not in plain[3:6]])
     put("cut.frames", stored[:plain[8]])
+    put("turned.frames", [*stored[:plain[6]], *stored[plain[6]:][::-1]])
     changed = list(stored)
     changed[plain[4]] = stored[plain[4]][:-3] + b"<script>alert(1)</script>&amp;"
     put("changed.frames", [*changed, b"<13>1 2026-01-15T09:40:00+02:00 - - - - - put in"])

@@ -69,9 +69,9 @@ def wanted(line: str, stored: List[bytes], log: str) -> Dict[str, object]:
     """The object for a line of a report, but for the name of a key."""
     word, *fields = line.split(" ")
     names: Dict[str, object] = {"line": word}
-    if word in ("session", "ok", "gap", "hole", "tail", "blocks"):
+    if word in ("session", "ok", "gap", "hole", "disorder", "tail", "blocks"):
         names.update(host=fields[0], app=fields[1], procid=fields[2], rsid=int(fields[3]))
-    if word in ("ok", "gap", "hole", "tail"):
+    if word in ("ok", "gap", "hole", "disorder", "tail"):
         names.update(sg=int(fields[4]), spri=int(fields[5]))
     if word == "session":
         names.update(state=fields[4])
@@ -82,6 +82,8 @@ def wanted(line: str, stored: List[bytes], log: str) -> Dict[str, object]:
                      before=None, after=None)
     elif word == "hole":
         names.update(first=int(fields[6]), last=int(fields[7]), count=int(fields[7]) - int(fields[6]) + 1, before=None, after=None)
+    elif word == "disorder":
+        names.update(count=int(fields[6]), number=int(fields[7]), place=int(fields[8]))
     elif word == "tail":
         names.update(first=int(fields[6]), last=int(fields[7]), count=int(fields[7]) - int(fields[6]) + 1, before=None)
     elif word == "blocks":
@@ -100,7 +102,7 @@ def wanted(line: str, stored: List[bytes], log: str) -> Dict[str, object]:
         names.update(file=log, file_place=int(fields[0]), timestamp=stamp(text), octets=len(text),
                      text=escaped(text, 2048 if word == "unlisted" else 60))
     # docs/guide.md, "Words of a verdict"
-    words = {"hole": "unannounced", "tail": "missing", "blocks": "missing", "unlisted": "unlisted", "refused": "unverified",
+    words = {"hole": "unannounced", "disorder": "out of order", "tail": "missing", "blocks": "missing", "unlisted": "unlisted", "refused": "unverified",
              "spoilt": "spoilt", "damaged": "damaged", "torn": "torn", "gap": "missing" if line.endswith(" lost") else "disputed"}
     names.update({"finding": words[word]} if word in words else {})
     return names
@@ -235,7 +237,7 @@ def check_json(report: str, path: str, log: str, status: str, *options: str) -> 
     assert verdict["strangers"] == verdict["unverified"] or set(verdict["sessions"]) - {"joined", "absent"}, verdict
     assert [verdict[it] for it in MARKED] == [0, None, None, None, 0, None], verdict
     counters = options[options.index("--counters") + 1] if "--counters" in options else None
-    found = [{key: it[key] for key in it if key not in ("gbc", "out_of_order", "first_out_of_order")} for it in verdict["groups"]]
+    found = [{key: it[key] for key in it if key != "gbc"} for it in verdict["groups"]]
     assert found == groups(lines, counters), (found, groups(lines, counters))
     keys = ["host", "app", "procid", "rsid", "sg", "spri", "last", "gbc", *(["next", "next_gbc"] if counters else []),
             "out_of_order", "first_out_of_order"]
@@ -291,7 +293,7 @@ def in_runs(lines: List[str], word: str) -> int:
 
 
 def groups(lines: List[str], counters: Optional[str]) -> List[Dict[str, object]]:
-    """The groups of a report, but for what it doesn't say of their blocks and their order."""
+    """The groups of a report, but for what it doesn't say of their blocks."""
     sessions = [it.split(" ")[1:5] for it in lines if it.startswith("session ")]
     last: Dict[Tuple[int, int, int], int] = {}
     for word, *fields in (it.split(" ") for it in lines):
@@ -312,6 +314,12 @@ def groups(lines: List[str], counters: Optional[str]) -> List[Dict[str, object]]
         if counters:
             name = f"count {host} {app} {procid} {rsid}"
             row.update(next=counted.get(f"{name} {sg} {spri}"), next_gbc=counted.get(name))
+        front = f"ok {host} {app} {procid} {rsid} {sg} {spri} "
+        listed = [tuple(map(int, it.split(" ")[7:])) for it in lines if it.startswith(front)]
+        turned = [number for (_, before), (number, place) in zip(listed, listed[1:]) if place < before]
+        row.update(out_of_order=len(turned), first_out_of_order=turned[0] if turned else None)
+        disorder = [f"disorder{front[2:]}{len(turned)} {turned[0]} {dict(listed)[turned[0]]}"] if turned else []
+        assert [it for it in lines if it.startswith(f"disorder{front[2:]}")] == disorder, disorder
         rows.append(row)
     return rows
 
@@ -337,6 +345,13 @@ def damaged(kind: str, stored: List[bytes]) -> List[bytes]:
         swapped = list(stored)
         swapped[plain[2]], swapped[plain[3]] = stored[plain[3]], stored[plain[2]]
         return swapped
+    if kind == "reversed":
+        return stored[::-1]
+    if kind == "blocks-first":
+        return sorted(stored, key=lambda it: not is_block(it))
+    if kind == "groups-apart":
+        # each message of one PRI, and then each of the next: within them nothing moves
+        return sorted(stored, key=lambda it: b"" if is_block(it) else it[:it.index(b">")])
     if kind == "run":
         return [text for place, text in enumerate(stored) if place not in (plain[0], plain[1], plain[2], plain[8])]
     raise AssertionError(kind)

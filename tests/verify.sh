@@ -48,7 +48,7 @@ as_reviewed() {
     # verify has frames read on after damage
     local salvage=(--salvage)
     [[ " $* " != *' --lines '* ]] || salvage=()
-    timeout "$patience" "$program" review --answers answers "${salvage[@]}" "$@" <"$log" >reviewed
+    timeout "$patience" "$program" review --answers answers --in-order "${salvage[@]}" "$@" <"$log" >reviewed
     local review_status=$?
     # nothing is authentic where nothing is listed
     grep -q '^ok ' reviewed || review_status=1
@@ -301,9 +301,39 @@ check logs of two forms one by one, or name the form of all with --lines or --fr
 printf '<13>1 - h a - - - no frame' >stored
 keys verify --key keys/public-key.pem stored
 says 'a front of a line, and no frame' 1 'Torn: the log breaks off in the message that begins at octet 0 of stored'
+# any_order WHAT LOG LINE..: under --any-order the log is clean, and these lines stand in the text; the report is that of a review
+# without --in-order.
+any_order() {
+    keys verify --key keys/public-key.pem --any-order "$2"
+    says "$1, which is taken" 0 "${@:3}"
+    rm -f answers
+    keys verify --key keys/public-key.pem --any-order --raw --answers-out answers "$2"
+    holds "$1, which is taken: the report" cmp out <("$program" review --salvage --answers answers <"$2")
+}
+other_order="$all_there But the listed messages don't stand in the order of their numbers."
+turned='    out of order: 1 listed message stands in front of the one with the number before, first number 4 at place 4'
 damage order
-says 'another order' 0 '    order: 1 listed message stands in front of the one with the number before, first number 4' \
-    'Verdict: All 10 announced messages are present and unchanged, and each other stored message is a verified block. But the listed messages don'\''t stand in the order of their numbers.'
+says 'another order' 1 "$turned" 'Verdict: FINDINGS: of 10 announced messages 10 are present and unchanged; 1 listed message is out of order.'
+holds 'another order: no other word of it' test "$(grep -c 'order' out)" = 2
+as_reviewed 'another order' stored
+keys verify --key keys/public-key.pem --json stored
+holds 'another order: its object' grep -Fqx \
+    '{"line":"disorder","host":"gate","app":"signer","procid":"-","rsid":1,"sg":0,"spri":0,"count":1,"number":4,"place":4,"finding":"out of order"}' out
+holds 'another order: its group' grep -Fq '"out_of_order":1,"first_out_of_order":4}' out
+any_order 'another order' stored "$turned" "$other_order"
+keys verify --key keys/public-key.pem --any-order --json stored
+holds 'another order, which is taken: no object' test "$(grep -c '"line":"disorder"' out)" = 0
+holds 'another order, which is taken: its group' grep -Fq '"out_of_order":1,"first_out_of_order":4}' out
+damage reversed
+turned='    out of order: 9 listed messages stand in front of the one with the number before, first number 2 at place 11'
+says 'all messages from the last to the first' 1 "$turned" \
+    'Verdict: FINDINGS: of 10 announced messages 10 are present and unchanged; 9 listed messages are out of order.'
+as_reviewed 'all messages from the last to the first' stored
+any_order 'all messages from the last to the first' stored "$turned" "$other_order"
+damage blocks-first
+says 'blocks before their messages' 0 "$rising" "$all_there"
+as_reviewed 'blocks before their messages' stored
+any_order 'blocks before their messages' stored "$rising" "$all_there"
 damage run
 says 'a run of messages taken out' 1 '    missing: numbers 1 to 3 (3 messages)' '    missing: number 9' '    numbers 1 to 10: 6 listed, 4 missing'
 head -c -3 signed >stored
@@ -469,7 +499,7 @@ printf '#!/bin/sh\necho "$*" >>called\nexec %q "$@"\n' "$program" >recording
 chmod +x recording
 keys verify --key keys/public-key.pem --whole --max-len 9999 --ssign ./recording stored
 holds 'the words of ssign' cmp <(sed 's|=/[^ ]*/|=|g' called) \
-    <(printf '%s\n' --version 'review --ask=asked --answers=given --whole --max-len=9999 --salvage')
+    <(printf '%s\n' --version 'review --ask=asked --answers=given --whole --in-order --max-len=9999 --salvage')
 printf '#!/bin/sh\nexit 2\n' >silent
 chmod +x silent
 for form in '' --json --raw; do
@@ -590,7 +620,10 @@ keys verify --key keys/public-key.pem --counters counters stored
 says 'a message put in, up to counters' 1 'Verdict: FINDINGS: of 10 announced messages 10 are present and unchanged; 1 stored message is unlisted. Nothing is missing up to the counters.'
 damage order
 keys verify --key keys/public-key.pem --counters counters stored
-says 'another order, up to counters' 0 "$all_there But the listed messages don't stand in the order of their numbers. Nothing is missing up to the counters."
+says 'another order, up to counters' 1 'Verdict: FINDINGS: of 10 announced messages 10 are present and unchanged; 1 listed message is out of order. Nothing is missing up to the counters.'
+as_reviewed 'another order, up to counters' stored --counters counters
+keys verify --key keys/public-key.pem --any-order --counters counters stored
+says 'another order, which is taken, up to counters' 0 "$other_order Nothing is missing up to the counters."
 damage block
 keys verify --key keys/public-key.pem --counters counters stored
 says 'a block changed, up to counters' 1 'Verdict: FINDINGS: of 6 announced messages 6 are present and unchanged; 4 numbers are unannounced; 1 signature block is missing or unverified, so messages may be missing without another line saying so; 4 stored messages are unlisted; 1 block is unverified.'
@@ -604,6 +637,11 @@ kept '1 10' '1 1 34 2' '1 1 37 2' '1 1 38 2' '1 1 46 2' '1 1 78 2' '1 1 85 2' '1
 holds 'the counters of groups' cmp counters <(count grouped)
 keys verify --key keys/public-key.pem --counters counters grouped
 says 'groups up to counters' 0 "$all_there Nothing is missing up to the counters."
+python3 -B "$root/tests/verdicts.py" damage groups-apart grouped >stored
+holds 'groups among each other: they stand otherwise' test "$(cmp -s stored grouped; echo $?)" = 1
+keys verify --key keys/public-key.pem --counters counters stored
+says 'groups among each other have no order' 0 "$all_there Nothing is missing up to the counters."
+as_reviewed 'groups among each other have no order' stored --counters counters
 lose 8
 keys verify --key keys/public-key.pem --counters counters stored
 says 'the last block of a group' 1 "  missing: signature block 9 (GBC 8), $unseen_block" \
@@ -740,7 +778,7 @@ keys verify --key keys/public-key.pem --counters counters.1 --max-len 9999 --ssi
 says 'the words of ssign with --counters: the verdict' 0 "$all_there Nothing is missing up to the counters."
 holds 'the words of ssign with --counters' cmp <(sed 's#=/[^ ]*/\(answers\|counters\)#=\1#g' called) \
     <(printf '%s\n' --version 'review --counters=counters' 'review --max-len=9999 --salvage' 'questions --once --json --max-len=9999 --salvage' \
-        'review --answers=answers --counters=counters --max-len=9999 --salvage')
+        'review --answers=answers --counters=counters --in-order --max-len=9999 --salvage')
 
 # ---- what no block signed, and hostile texts
 for it in logger rsyslog syslog-ng; do
@@ -852,7 +890,9 @@ keys verify --key keys/public-key.pem --lines many
 holds 'many unlisted lines: in time' test "$status" = 1
 holds 'many unlisted lines: ten are shown' test "$(grep -c '^  place ' out)" = 10
 holds 'many unlisted lines: where the others stand' grep -qFx '  and 59,990 more, at places 10 to 59999' out
-holds 'many unlisted lines: no other line is as long' test "$(wc -l <out)" = 14
+holds 'many unlisted lines: the verdict and the longest run stand before the list' cmp <(sed 3q out) \
+    <(printf '%s\n' "$(tail -n 1 out)" 'The longest runs of each kind:' '  unlisted: places 0 to 59999 (60,000 messages)')
+holds 'many unlisted lines: no other line is as long' test "$(wc -l <out)" = 17
 keys verify --key keys/public-key.pem --max-len=-1 signed
 holds 'no limit: status 2' test "$status" = 2
 holds 'no limit: nothing on standard output' test ! -s out

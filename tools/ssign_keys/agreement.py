@@ -36,9 +36,9 @@ class Survey(ReportVisitor):
     """Counts the lines of a report, and keeps which messages are unlisted, and how far each group goes."""
 
     def __init__(self, messages: int, notes: Notes, is_whole: bool, counters: Optional[Counters],
-                 begin: Optional[Counters], is_salvaged: bool) -> None:
+                 begin: Optional[Counters], is_salvaged: bool, is_in_order: bool = True) -> None:
         """Nothing is surveyed yet. The report ends with so many messages."""
-        super().__init__(is_whole, counters, begin, is_salvaged)
+        super().__init__(is_whole, counters, begin, is_salvaged, is_in_order)
         self.damage = Damage()
         self.unlisted = array("I")
         self.refused = array("I")
@@ -83,7 +83,7 @@ class Survey(ReportVisitor):
     def has_others(self) -> bool:
         """Whether a line is another finding than an unverified block."""
         totals = self.totals
-        outside = totals.early or totals.beyond
+        outside = totals.early or totals.beyond or self.is_in_order and totals.out_of_order
         return bool(totals.lost or totals.disputed or totals.unannounced or totals.tails or outside or totals.unlisted
                     or totals.spoilt or totals.damaged or totals.torn is not None or self.missing
                     or sum(self.states.values()) != self.states.get("joined", 0))

@@ -89,6 +89,13 @@ class JsonVerdict(StretchVisitor):
         number, place = neighbour
         return {"number": number, "place": place, "timestamp": self._reviewed.detailed().times.of_neighbour(neighbour)}
 
+    def end_group(self, group: Group) -> None:
+        """Writes what stands at the end of a group, and which of its messages are out of order."""
+        super().end_group(group)
+        if self.is_in_order and group.out_of_order:
+            self._put({"line": "disorder", **names_of(group.session), "sg": group.sg, "spri": group.spri, "count": group.out_of_order,
+                       "number": group.first_out_of_order, "place": group.first_place, "finding": "out of order"})
+
     def outside(self, session: Session, sg: int, spri: int, first: int, last: int, is_early: bool) -> None:
         """Writes announced numbers that don't belong to the night."""
         word = "early" if is_early else "beyond"

@@ -35,6 +35,7 @@ class Kind(NamedTuple):
 
 # in the order in which they are shown
 KINDS: Dict[str, Kind] = {
+    "gone": Kind("session", "gone", "the counters name it, and no block of it is here"),
     "missing": Kind("announced message", "missing", "no stored message is listed for it: it was taken out, or never came"),
     "changed or replaced": Kind("missing message", "likely changed or replaced", "as many unlisted messages stand between the same "
                                 "neighbours; a hash can't show its message, so this is no more than likely"),
@@ -89,6 +90,13 @@ class Run(NamedTuple):
         return numbers if has_one_group else f"{numbers} of {whose(self.session, self.sg, self.spri)}"
 
 
+class Found(NamedTuple):
+    """A finding that is no run: where it is, and what it is."""
+
+    where: str
+    what: str
+
+
 class Longest(Generic[It]):
     """Counts entries with their lengths, and keeps the longest ones."""
 
@@ -120,6 +128,7 @@ class Weighed(StretchVisitor):
         """Keeps so many of each kind."""
         super().__init__(survey)
         self.runs: Dict[str, Longest[Run]] = {it: Longest(most) for it in KINDS}
+        self.others: Dict[str, Longest[Found]] = {it: Longest(most) for it in KINDS}
         self.has_one_group = len(survey.reach) == 1
         self._unlisted = survey.unlisted
         # of each unlisted message: whether it likely is a missing one, and how many more runs of unannounced numbers may be its
@@ -129,10 +138,37 @@ class Weighed(StretchVisitor):
         self._index = self._depth = 0
         # stored messages that follow one another: their kind, cause, first and last place
         self._strays = ("", "", 0, 0)
+        # the present session if it is gone, and how many messages and signature blocks of it the counters count
+        self._gone: Optional[Session] = None
+        self._gone_counts = [0, 0]
+
+    def count(self, kind: str) -> int:
+        """How many numbers, messages or other findings of a kind there are."""
+        return self.runs[kind].numbers + self.others[kind].entries
 
     def taken(self, kind: str, run: Run) -> None:
-        """Takes a run."""
-        self.runs[kind].add(run.stretch.length, run)
+        """Takes a run. A session that is gone is one finding, with all that is missing of it."""
+        if self._gone is None:
+            self.runs[kind].add(run.stretch.length, run)
+        else:
+            self._gone_counts[run.sg < 0] += run.stretch.length
+
+    def found(self, kind: str, where: str, what: str, weight: int = 1) -> None:
+        """Takes a finding that is no run."""
+        self.others[kind].add(weight, Found(where, what))
+
+    def session(self, session: Session, state: str) -> None:
+        """Begins a session."""
+        super().session(session, state)
+        self._end_gone()
+        self._gone = session if state == "absent" else None
+
+    def _end_gone(self) -> None:
+        if self._gone is not None:
+            messages, blocks = self._gone_counts
+            self.found("gone", short(self._gone), f"{grouped(messages, 'message')} and {grouped(blocks, 'signature block')} of it, by the "
+                       "counters", messages)
+        self._gone, self._gone_counts = None, [0, 0]
 
     def stretch(self, group: Group, stretch: Stretch) -> None:
         """Takes numbers that aren't listed, with the unlisted messages that may be theirs."""
@@ -151,6 +187,12 @@ class Weighed(StretchVisitor):
                 kind = "changed or replaced"
         self.taken(kind, Run(group.session, group.sg, group.spri, stretch, stored))
 
+    def end_group(self, group: Group) -> None:
+        """Takes the group if it isn't in order."""
+        super().end_group(group)
+        if group.out_of_order:
+            self.found("out of order", whose(group.session, group.sg, group.spri), order_words(group), group.out_of_order)
+
     def outside(self, session: Session, sg: int, spri: int, first: int, last: int, is_early: bool) -> None:
         """Takes announced numbers that don't belong to the night."""
         self.taken("early" if is_early else "beyond", Run(session, sg, spri, Stretch("", first, last, None, None, ())))
@@ -165,6 +207,7 @@ class Weighed(StretchVisitor):
 
     def stray(self, kind: str, place: int, cause: str) -> None:
         """Takes a message that no number lists, unless it is counted with the numbers that may be its own."""
+        self._end_gone()
         if kind == "unlisted":
             self._index += 1
             self._depth += self._claims[self._index - 1]
@@ -185,6 +228,7 @@ class Weighed(StretchVisitor):
 
     def end(self, count: int) -> None:
         """Takes the last stored messages."""
+        self._end_gone()
         self._end_strays()
 
 
@@ -193,6 +237,13 @@ def numbers_words(first: int, last: int) -> str:
     if first == last:
         return f"number {first}"
     return f"numbers {first} to {last} ({last - first + 1:,} messages)"
+
+
+def order_words(group: Group) -> str:
+    """In how far the order isn't that of the numbers."""
+    stand = grouped(group.out_of_order, "listed message stands", "listed messages stand")
+    first = f"first number {group.first_out_of_order} at place {group.first_place}"
+    return f"{stand} in front of the one with the number before, {first}"
 
 
 def short(session: Session) -> str:

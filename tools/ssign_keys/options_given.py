@@ -10,8 +10,8 @@ from .words import shown_name
 # options that the verdict, or its form, depends on. The others say where something is kept, or how fast the run is
 VALUED = ("key", "ca", "ca-anchor", "cert", "max-payload", "max-len", "max-messages", "max-expanded", "counters", "from",
           "manifest", "manifest-last", "manifest-seen", "stamped", "tsa-ca", "tsa-ca-anchor")
-FLAGS = ("from-manifest", "at-signing-time", "allow-sha1", "ignore-strangers", "lines", "frames", "whole", "findings", "raw",
-         "json", "details", "hostname")
+FLAGS = ("from-manifest", "at-signing-time", "allow-sha1", "ignore-strangers", "lines", "frames", "whole", "any-order", "findings",
+         "raw", "json", "details", "hostname")
 PAIRS = ("session-key",)
 LEFT_OUT = ("nights", "html", "answers-out", "counters-out", "jobs", "ssign", "help")
 # those that say how much is printed, which a page doesn't repeat

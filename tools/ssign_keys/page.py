@@ -23,14 +23,15 @@ from .report import Group
 from .reviewed import Reviewed
 from .strips import DRAWN, FINE, Strip
 from .summaries import FEW
-from .text_verdict import (STATES, after_words, group_words, neighbours_words, octets_words, order_words, place_words,
-                           times_words)
+from .text_verdict import STATES, after_words, group_words, neighbours_words, octets_words, place_words, times_words
 from .words import grouped, octets_for, shown_name
 
 # the first octets of a page, by which one is known
 FRONT = front_of("ssign-keys verify --html")
 # how many rows of a kind of finding, sessions and strips there are, and how many strips aren't folded
 MOST_ROWS, MOST_SESSIONS, MOST_STRIPS, SHOWN_STRIPS = 200, 500, 60, 4
+# the kinds without runs of which the first box names the longest, with what they are
+LED = {"gone": "session", "out of order": "group"}
 HEADS = ("Where", "Between", "Text, or what it means")
 # how many characters all texts of messages have together; then each has so many at most
 MOST_TEXT, SHORT_TEXT = 300000, 120
@@ -44,9 +45,6 @@ class Page(Weighed):
         super().__init__(reviewed.survey, MOST_ROWS)
         self._reviewed = reviewed
         self._times = reviewed.detailed().times
-        # the rows of kinds without runs, and how many there are
-        self._rows: Dict[str, List[List[Child]]] = {}
-        self._counts: Dict[str, int] = {}
         self._text_left = MOST_TEXT
         self._session = Session(b"", b"", b"", b"")
         # what is known of the present session, where it is joined
@@ -59,15 +57,9 @@ class Page(Weighed):
                        for it in reviewed.survey.reach}
         self._places = Strip((None, -1, -1), 0, reviewed.survey.totals.messages - 1)
         for where, what in other_findings:
-            self._add("manifest", named(where), named(what))
+            self.found("manifest", where, what)
 
     # ---- findings
-
-    def _add(self, kind: str, where: Child, what: Child) -> None:
-        """Counts a finding of a kind without runs, and adds its row."""
-        self._counts[kind] = self._counts.get(kind, 0) + 1
-        if self._counts[kind] <= MOST_ROWS:
-            self._rows.setdefault(kind, []).append([where, "", what])
 
     def _between(self, stretch: Stretch, has_numbers: bool) -> Markup:
         """Between which times something was sent, by its neighbours, and perhaps which these are."""
@@ -93,15 +85,15 @@ class Page(Weighed):
         weakness = sha1.weakness(facts, state)
         if weakness is not None:
             lines.append(weakness)
-            self._add("SHA-1", named(short(session)), weakness)
+            self.found("SHA-1", short(session), weakness)
         of_strangers = self._reviewed.facts.strangers.get(session, strangers.NO_CLAIMS)
         if of_strangers.blocks:
             lines.append(strangers.words_of(of_strangers))
-            self._add("strangers", named(short(session)), lines[-1])
+            self.found("strangers", short(session), lines[-1])
         if state == "joined":
             self._known = [f"state: {state}; {STATES[state]}", *lines, times_words(*self._times.of_session(session))]
-        else:
-            self._add("not joined", named(short(session)), named("; ".join([state, STATES[state], *lines])))
+        elif state != "absent":
+            self.found("not joined", short(session), "; ".join([state, STATES[state], *lines]))
 
     def begin_group(self, group: Group) -> None:
         """Begins a strip."""
@@ -126,12 +118,6 @@ class Page(Weighed):
         super().taken(kind, run)
         if run.sg >= 0 and kind not in ("early", "beyond"):
             self._strip(run.sg, run.spri).take(run.stretch.first, run.stretch.last, kind)
-
-    def end_group(self, group: Group) -> None:
-        """Adds a row where the order isn't that of the numbers."""
-        super().end_group(group)
-        if group.out_of_order:
-            self._add("out of order", named(whose(group.session, group.sg, group.spri)), order_words(group))
 
     def _end_session(self) -> None:
         """Keeps the session whose lines were read, and its strips."""
@@ -158,18 +144,18 @@ class Page(Weighed):
         self._places.take(place, place, "damaged")
         if self.totals.damaged == 1:
             log = self._reviewed.log
-            for it in sorted(self._reviewed.survey.damage.longest(MOST_ROWS), key=lambda it: -it.length):
-                self._add("damaged", self._octet(it.offset), named(f"{grouped(it.length, 'octet')}, {after_words(log, it)}"))
-        self._counts["damaged"] = self.totals.damaged
+            for it in self._reviewed.survey.damage.longest(MOST_ROWS):
+                self.found("damaged", self._octet(it.offset), f"{grouped(it.length, 'octet')}, {after_words(log, it)}", it.length)
+        self.others["damaged"].entries = self.totals.damaged
 
     def torn(self, offset: int) -> None:
-        """Adds a row."""
-        self._add("torn", self._octet(offset), "the log breaks off in the message that begins there")
+        """Takes where that is."""
+        self.found("torn", self._octet(offset), "the log breaks off in the message that begins there")
 
-    def _octet(self, offset: int) -> Markup:
+    def _octet(self, offset: int) -> str:
         """The file and the octet of it."""
         part = self._reviewed.log.part_of_offset(offset)
-        return joined(named(shown_name(part.name)), f", octet {offset - part.offset}")
+        return f"{shown_name(part.name)}, octet {offset - part.offset}"
 
     def end(self, count: int) -> None:
         """Draws what no line is about, or is listed."""
@@ -194,20 +180,17 @@ class Page(Weighed):
         """Writes the page into a passing file."""
         reviewed, checked = self._reviewed, self._reviewed.detailed().checked
         status = reviewed.facts.status
-        word = "Clean" if status == 0 else "Findings" if self.totals.listed else "Nothing is shown"
+        clean = "Clean, but out of order" if self.totals.out_of_order else "Clean"
+        word = clean if status == 0 else "Findings" if self.totals.listed else "Nothing is shown"
         pieces = [verdict_part(reviewed, word, self._leads()), checked_part(checked), self._pictures(),
                   *self._findings(), self._sessions_part(), limits_part(reviewed), repeat_part(checked, status),
                   with_part(checked)]
         write_page(out, FRONT, f"{word}: check of a signed log, {checked.time}", pieces, foot(checked))
 
-    def _count(self, kind: str) -> int:
-        """How many numbers, messages or other findings of a kind there are."""
-        return self.runs[kind].numbers + self._counts.get(kind, 0)
-
     def _leads(self) -> Iterator[Markup]:
         """A sentence for each kind of finding, with its longest runs."""
         for kind, its in KINDS.items():
-            count, runs = self._count(kind), self.runs[kind]
+            count, runs, found = self.count(kind), self.runs[kind], self.others[kind]
             if not count:
                 continue
             # these are counted with the numbers that may be theirs
@@ -217,7 +200,10 @@ class Page(Weighed):
             for at, it in enumerate(runs.longest()[:NAMED]):
                 between = self._between(it.stretch, False)
                 ways += ["; " if at else ": ", named(it.words(self.has_one_group)), ", " if between else "", between]
-            more = f"; and {grouped(runs.entries - NAMED, 'more run')}" if runs.entries > NAMED else ""
+            for at, each in enumerate(found.longest()[:NAMED] if kind in LED else []):
+                ways += ["; " if at else ": ", named(each.where), ", ", each.what]
+            rest = runs.entries + (found.entries if kind in LED else 0) - NAMED
+            more = f"; and {grouped(rest, 'more ' + LED.get(kind, 'run'))}" if rest > 0 else ""
             others -= self.runs["changed or replaced"].numbers
             if kind == "unannounced" and others:
                 more += f"; {grouped(others, 'unlisted message')} may be {'its' if count == 1 else 'their'} own"
@@ -253,11 +239,12 @@ class Page(Weighed):
         texts = {place: self._text(place, wanted[place]) for place in sorted(wanted)}
         made = []
         for kind, its in KINDS.items():
-            rows = [self._row(run, places, texts) for run, places in chosen.get(kind, [])] + self._rows.get(kind, [])
+            rows = [self._row(run, places, texts) for run, places in chosen.get(kind, [])]
+            rows += [[named(it.where), "", named(it.what)] for it in self.others[kind].longest()]
             if rows:
-                made.append(plain("section", plain("h2", f"{kind[0].upper()}{kind[1:]} ({self._count(kind):,})"),
+                made.append(plain("section", plain("h2", f"{kind[0].upper()}{kind[1:]} ({self.count(kind):,})"),
                                   *cut_table(kind.replace(" ", "-"), f"{its.meaning[0].upper()}{its.meaning[1:]}.", HEADS, rows,
-                                             self.runs[kind].entries + self._counts.get(kind, 0))))
+                                             self.runs[kind].entries + self.others[kind].entries)))
         return made
 
     def _places_of(self, run: Run, most: int) -> Sequence[int]:

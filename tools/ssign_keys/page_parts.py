@@ -23,11 +23,12 @@ def verdict_part(reviewed: Reviewed, word: str, leads: Iterable[Child]) -> Marku
     """The verdict first, with a sentence for each kind of finding."""
     facts, totals, checked = reviewed.facts, reviewed.survey.totals, reviewed.detailed().checked
     sign = element("span", {"aria-hidden": "true"}, "✓ " if facts.status == 0 else "✗ ")
+    colour = "bad" if facts.status else "odd" if totals.out_of_order else "good"
     stored = f"The log has {grouped(totals.messages, 'stored message')}" + ("." if totals.torn is None else ", and breaks off.")
     return plain("section", plain("h1", "Check of a signed log"),
                  element("p", {"class": "dim"}, f"Made at {checked.time} by {checked.tool.version} and "
                          f"{checked.ssign.version or 'an unknown ssign'}. Status {facts.status}. {stored}"),
-                 element("div", {"class": f"verdict {'good' if facts.status == 0 else 'bad'}", "id": "verdict"},
+                 element("div", {"class": f"verdict {colour}", "id": "verdict"},
                          plain("strong", sign, word), element("span", {"id": "sentence"}, sentence(facts)),
                          listing(*leads)))
 
@@ -97,13 +98,17 @@ def limits_part(reviewed: Reviewed) -> Markup:
     general: List[Child] = [
         "Whoever holds the private key can change the log and sign it again.",
         "The verdict is worth no more than the key. Get the key by another way than with the log.",
-        "It doesn't say whether a signed message is true, or whether the sender's clock was right. Times are those that messages "
-        "state.",
+        "It doesn't say whether a signed message is true.",
+        "Times are those that messages and payloads state. No signature shows that a clock was right, or when something was signed.",
+        "An order is checked within each group. How messages of two groups, or of two sessions, stood to each other isn't signed.",
+        "If an RSID was used twice with the same names and key, messages of one run may stand in the other.",
         "An unlisted message may still be genuine: perhaps its signature block is missing.",
     ]
-    if not has_counters:
-        general.insert(0, "No counters were given. So a log whose end was cut off, with its last blocks, looks like one that was "
-                          "always shorter.")
+    if reviewed.facts.is_any_order:
+        general.insert(0, "Messages were taken in any order: --any-order.")
+    general.insert(0, "A group or a session that the counters don't name may be gone as a whole." if has_counters else
+                   "No counters were given. So whatever was cut off at the end, with its last blocks, doesn't show. Neither does a "
+                   "group or a session that is gone as a whole.")
     if not reviewed.is_whole:
         general.insert(0, "Missing signature blocks weren't looked for: --whole does that.")
     return plain("section", plain("h2", "What the verdict doesn't cover"), *known, listing(*general))

@@ -18,14 +18,14 @@ LIGHT = {
     "missing": "#b3261e", "disputed": "#7a1fa2", "unannounced": "#9a6200", "missing-up-to-the-counters": "#1f5fb3",
     "changed-or-replaced": "#4a55c8", "unlisted": "#c2410c",
     "unverified": "#8c2d55", "spoilt": "#5d4037", "damaged": "#00696b", "verified": "#7d8b98", "good": "#e3f2e6", "good-fore": "#14532d",
-    "bad": "#fde7e4", "bad-fore": "#7a1510",
+    "bad": "#fde7e4", "bad-fore": "#7a1510", "odd": "#fff4cc", "odd-fore": "#5c4400",
 }
 DARK = {
     "back": "#15171a", "fore": "#e8e6e3", "dim": "#a9a9a9", "line": "#50555b", "box": "#1f2226", "listed": "#5cb87f",
     "missing": "#ff7b70", "disputed": "#d08bf0", "unannounced": "#f2b84b", "missing-up-to-the-counters": "#79aef2",
     "changed-or-replaced": "#a5b0ff", "unlisted": "#ff9a63",
     "unverified": "#ef8fb8", "spoilt": "#c7a79b", "damaged": "#4fc4c4", "verified": "#8794a1", "good": "#163522", "good-fore": "#c9f2d6",
-    "bad": "#43191a", "bad-fore": "#ffd9d4",
+    "bad": "#43191a", "bad-fore": "#ffd9d4", "odd": "#3a2f0b", "odd-fore": "#ffe9a8",
 }
 KINDS = ("listed", "verified", *PATTERNS)
 REST = """
@@ -43,6 +43,7 @@ ul{margin:.3rem 0;padding-left:1.2rem}
 summary{cursor:pointer;color:var(--dim)}
 .good{background:var(--good);color:var(--good-fore)}
 .bad{background:var(--bad);color:var(--bad-fore)}
+.odd{background:var(--odd);color:var(--odd-fore)}
 .dim,caption{color:var(--dim)}
 table{border-collapse:collapse;width:100%;font-size:.9rem;margin:.4rem 0 1rem}
 caption{text-align:left;padding:.2rem 0}

@@ -5,7 +5,6 @@ aren't all known, is no report: it is refused.
 """
 from __future__ import annotations
 
-import operator
 import re
 from dataclasses import dataclass
 from typing import BinaryIO, Dict, Iterator, List, Optional, Sequence, Tuple
@@ -22,8 +21,8 @@ from .words import shown_front
 PIECE = 1 << 16
 LEAST = 1 << 10
 # the words of a report, with how many fields follow each, and where they stand among the others
-FIELDS = {b"session": 5, b"ok": 8, b"gap": 8, b"hole": 8, b"early": 8, b"beyond": 8, b"tail": 8, b"blocks": 6, b"unlisted": 1,
-          b"refused": 1, b"spoilt": 2, b"damaged": 3, b"torn": 1, b"end": 1}
+FIELDS = {b"session": 5, b"ok": 8, b"gap": 8, b"hole": 8, b"disorder": 9, b"early": 8, b"beyond": 8, b"tail": 8, b"blocks": 6,
+          b"unlisted": 1, b"refused": 1, b"spoilt": 2, b"damaged": 3, b"torn": 1, b"end": 1}
 ORDER = {b"unlisted": 1, b"refused": 2, b"spoilt": 3, b"damaged": 4, b"torn": 5, b"end": 6}
 STATES = ("joined", "disputed", "incomplete", "malformed", "untrusted", "unaccepted", "absent")
 # what follows the front of `ok` lines: numbers and places
@@ -45,9 +44,10 @@ class Group:
     lost: int = 0
     disputed: int = 0
     unannounced: int = 0
-    # of the listed messages: how many stand before the one with the number before, and the first such number
+    # of the listed messages: how many stand before the one with the number before, and the first such number and its place
     out_of_order: int = 0
     first_out_of_order: int = 0
+    first_place: int = 0
     place: int = -1
     # where the night begins, 1 in a whole log, and where it ends, if counters say that
     begin: int = 1
@@ -75,11 +75,13 @@ class Group:
         self.reach(numbers[0], numbers[-1])
         self.listed += len(numbers)
         self.announce(numbers[0], numbers[-1])
-        before = [self.place, *places[:-1]]
-        out_of_order = sum(map(operator.gt, before, places))
-        if out_of_order and not self.out_of_order:
-            self.first_out_of_order = numbers[list(map(operator.gt, before, places)).index(True)]
-        self.out_of_order += out_of_order
+
+    def compare(self, numbers: Sequence[int], places: Sequence[int]) -> None:
+        """Counts those of these listed messages that stand before the one with the number before."""
+        found = [at for at, before in enumerate([self.place, *places[:-1]]) if before > places[at]]
+        if found and not self.out_of_order:
+            self.first_out_of_order, self.first_place = numbers[found[0]], places[found[0]]
+        self.out_of_order += len(found)
         self.place = places[-1]
 
 
@@ -122,17 +124,19 @@ class ReportVisitor:
     """
 
     def __init__(self, is_whole: bool = False, counters: Optional[Counters] = None, begin: Optional[Counters] = None,
-                 is_salvaged: bool = False) -> None:
+                 is_salvaged: bool = False, is_in_order: bool = False) -> None:
         """A whole report, of `ssign review --whole`, also has lines about missing signature blocks.
 
         So has one with counters, of `--counters`, which also reports what is missing up to them, and one of a night that
         begins at counters, of `--from`. One of `--salvage` also has lines about damaged octets.
+        One of `--in-order` has lines about messages that are out of order; without them these are counted here.
         """
         self.totals = Totals()
         self.states: Dict[str, int] = {}
         self.counters = counters
         self.begin = begin
         self.is_salvaged = is_salvaged
+        self.is_in_order = is_in_order
         # how many signature blocks are missing; None where the report doesn't speak of them
         is_asked = is_whole or counters is not None or begin is not None
         self.missing: Optional[int] = 0 if is_asked else None
@@ -262,6 +266,8 @@ class Reading:
 
     def _list(self, group: Group, numbers: List[int], places: List[int]) -> None:
         group.list(numbers, places)
+        if not self._visitor.is_in_order:
+            group.compare(numbers, places)
         for it in self._visitors:
             it.listed(group, numbers, places)
 
@@ -277,6 +283,9 @@ class Reading:
             self._order, self._place = order, -1
         if word in (b"ok", b"gap", b"hole"):
             self._take_number(word, fields)
+            return
+        if word == b"disorder" and self._visitor.is_in_order:
+            self._take_disorder(fields)
             return
         self._close_group()
         if word == b"session":
@@ -434,6 +443,18 @@ class Reading:
             raise wrong(f"number {number} is {text_of(why.encode('ascii', 'replace'))}")
         for it in self._visitors:
             it.gap(group, number, why)
+
+    def _take_disorder(self, fields: List[bytes]) -> None:
+        """Takes what isn't in order in the present group, whose last line this is."""
+        self._check_session(fields)
+        sg, spri, count, number, place = map(number_of, fields[4:])
+        group = self._group
+        if group is None or (group.sg, group.spri) != (sg, spri):
+            raise wrong(f"the order of the group SG {sg}, SPRI {spri} doesn't stand after its other lines")
+        if not 0 < count < group.listed or not group.first < number <= group.last:
+            raise wrong(f"{count} messages of the group SG {sg}, SPRI {spri} are out of order, the first of them number {number}")
+        group.out_of_order, group.first_out_of_order, group.first_place = count, number, place
+        self._close_group()
 
     def _close_group(self) -> None:
         group = self._group

@@ -15,7 +15,7 @@ class StretchVisitor(ReportVisitor):
 
     def __init__(self, survey: Survey) -> None:
         """The same report was surveyed already."""
-        super().__init__(survey.missing is not None, survey.counters, survey.begin, survey.is_salvaged)
+        super().__init__(survey.missing is not None, survey.counters, survey.begin, survey.is_salvaged, survey.is_in_order)
         self._stretches = Stretches(survey.unlisted, survey.damage)
         # the last listed number of each group of the present session
         self._ends: Dict[Tuple[int, int], Optional[Neighbour]] = {}

@@ -13,7 +13,7 @@ from .damage import Damaged
 from .frames import LENGTH, frame_at
 from .identity import identity_lines
 from .logs import Log
-from .longest import NAMED, Weighed, numbers_words, whose
+from .longest import NAMED, Weighed, numbers_words, order_words, whose
 from .pairs import Neighbour, Stretch
 from .reach import Reached
 from .report import Group
@@ -140,12 +140,6 @@ def times_words(first: Optional[str], last: Optional[str]) -> str:
     return f"listed messages: {span}, by their sender's own clock"
 
 
-def order_words(group: Group) -> str:
-    """In how far the order isn't that of the numbers."""
-    stand = grouped(group.out_of_order, "listed message stands", "listed messages stand")
-    return f"{stand} in front of the one with the number before, first number {group.first_out_of_order}"
-
-
 def stamp_words(stamp: Optional[str]) -> str:
     """The TIMESTAMP of a message."""
     return "which states no time" if stamp in (None, "-") else f"of {stamp}"
@@ -192,6 +186,8 @@ class TextVerdict(Weighed):
         self._only_findings = only_findings
         self._details = reviewed.details if is_detailed else None
         self.lines = 0
+        # whether a list is cut
+        self._is_cut = False
         self._facts: Optional[BlockFacts] = None
         # headings that are written once something follows them
         self._session_heading: List[str] = []
@@ -209,6 +205,11 @@ class TextVerdict(Weighed):
     def _put(self, line: str) -> None:
         put(self._out, line.encode("utf-8", "backslashreplace") + b"\n")
         self.lines += 1
+
+    def _put_more(self, line: str) -> None:
+        """Says how many entries of a list aren't shown."""
+        self._is_cut = True
+        self._put(line)
 
     # ---- sessions
 
@@ -260,7 +261,7 @@ class TextVerdict(Weighed):
         for name, (indent, what, noun) in LISTS.items():
             few = self._lists.pop(name, None)
             if few is not None and few.left:
-                self._put(f"{indent}and {grouped(few.left, 'more run')} of {what} ({grouped(few.left_numbers, noun)})")
+                self._put_more(f"{indent}and {grouped(few.left, 'more run')} of {what} ({grouped(few.left_numbers, noun)})")
 
     def outside(self, session: Session, sg: int, spri: int, first: int, last: int, is_early: bool) -> None:
         """Shows announced numbers that don't belong to the night."""
@@ -338,7 +339,7 @@ class TextVerdict(Weighed):
             (group.lost, "missing"), (group.disputed, "disputed"), (group.unannounced, "unannounced")) if count)
         self._put(f"    numbers {group.first} to {group.last}: {group.listed:,} listed{counts}")
         if group.out_of_order:
-            self._put(f"    order: {order_words(group)}")
+            self._put(f"    out of order: {order_words(group)}")
         elif group.listed > 1 and not self._only_findings:
             self._put("    order: the places of the listed messages rise with their numbers")
 
@@ -372,13 +373,13 @@ class TextVerdict(Weighed):
             self._end_runs()
             self._end_states()
         elif self._runs.count:
-            self._put(f"  and {self._runs.count:,} more, at {'place' if self._runs.count == 1 else 'places'} {self._runs}")
+            self._put_more(f"  and {self._runs.count:,} more, at {'place' if self._runs.count == 1 else 'places'} {self._runs}")
         self._runs = Runs()
 
     def _end_states(self) -> None:
         for state, few in self._states.items():
             if few.left:
-                self._put(f"And {grouped(few.left, 'more session')}: {state}; {STATES[state]}")
+                self._put_more(f"And {grouped(few.left, 'more session')}: {state}; {STATES[state]}")
 
     def damaged(self, stretch: Damaged) -> None:
         """Shows all that is damaged at once, or the longest stretches if there are too many."""
@@ -391,8 +392,8 @@ class TextVerdict(Weighed):
             self._put(f"Damaged: {octets_words(log, it)}, {after_words(log, it)}.")
         more = len(damage) - len(shown_ones)
         if more:
-            self._put(f"  and {grouped(more, 'more stretch', 'more stretches')}, none of them longer; all {len(damage):,} have "
-                      f"{grouped(damage.octets, 'octet')}")
+            self._put_more(f"  and {grouped(more, 'more stretch', 'more stretches')}, none of them longer; all {len(damage):,} have "
+                           f"{grouped(damage.octets, 'octet')}")
 
     def torn(self, offset: int) -> None:
         """Shows where the log breaks off."""
@@ -434,29 +435,30 @@ class TextVerdict(Weighed):
             for damaged in it.stretch.damaged:
                 self._put(f"    likely {octets_words(self._reviewed.log, damaged, 'damaged octet')}")
         if self._pair_count > len(self._pairs):
-            self._put(f"  and {grouped(self._pair_count - len(self._pairs), 'more likely pair')}")
+            self._put_more(f"  and {grouped(self._pair_count - len(self._pairs), 'more likely pair')}")
 
     # ---- the verdict
 
     def verdict(self) -> bytes:
-        """Shows how far the log goes, and the verdict. Gives what has to stand in front: of a long text, or where a list of runs
-        was cut, the verdict and the longest runs; and what was checked."""
+        """Shows how far the log goes, and the verdict. Gives what has to stand in front: of a long text, or where a list was cut,
+        the verdict and the longest runs; and what was checked."""
         self._put_reach()
         said = f"Verdict: {sentence(self._reviewed.facts)}"
         self._put(said)
         checked = self._details.checked.lines() if self._details is not None else []
-        is_cut = any(it.entries > FEW for it in self.runs.values())
-        front = [said, *self._longest(), *checked] if is_cut or self.lines + len(checked) > LONG else checked
+        front = [said, *self._longest(), *checked] if self._is_cut or self.lines + len(checked) > LONG else checked
         return "".join(f"{it}\n" for it in front).encode("utf-8", "backslashreplace")
 
     def _longest(self) -> List[str]:
         """The longest runs of each kind, whatever stands before them in their lists."""
         lines = []
         for kind, runs in self.runs.items():
+            others = self.others[kind]
             lines += [f"  {kind}: {it.words(self.has_one_group)}{self._between(it.stretch.before, it.stretch.behind)}"
                       for it in runs.longest()]
-            if runs.entries > NAMED:
-                lines.append(f"  and {runs.entries - NAMED:,} more, none of them longer")
+            lines += [f"  {kind}: {it.where}: {it.what}" for it in others.longest()]
+            if runs.entries + others.entries > NAMED:
+                lines.append(f"  and {runs.entries + others.entries - NAMED:,} more, none of them longer")
         return ["The longest runs of each kind:", *lines] if lines else []
 
     def _put_reach(self) -> None:

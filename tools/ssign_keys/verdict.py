@@ -63,6 +63,8 @@ class Facts:
     """The fingerprint of each key that is none of those that the reviewer gave, and how many untrusted sessions state it."""
     given: str = "no key that you gave is"
     """What the reviewer gave in place of them, in front of `the one that its signer states`."""
+    is_any_order: bool = False
+    """Whether messages that are out of order are no finding."""
 
     @property
     def is_of_other_keys(self) -> bool:
@@ -100,7 +102,7 @@ def sentence(facts: Facts) -> str:
         said = clean(facts) + (f" But {sha1.finding(facts.on_sha1)}." if facts.on_sha1 else "")
     else:
         said = findings(facts)
-    said += order(facts.totals) + facts.broken.sentences()
+    said += order(facts) + facts.broken.sentences()
     if not facts.totals.listed:
         said += f" {nothing(facts)}"
         if facts.review_status == 0 and "joined" in facts.states and not facts.manifest_findings:
@@ -180,6 +182,7 @@ def other_findings(facts: Facts) -> List[str]:
         tails(totals),
         several(facts.missing_blocks, f"signature block is missing or unverified, {UNSEEN}",
                 f"signature blocks are missing or unverified, {UNSEEN}"),
+        "" if facts.is_any_order else several(totals.out_of_order, "listed message is out of order", "listed messages are out of order"),
         several(totals.unlisted, "stored message is unlisted", "stored messages are unlisted"),
         several(totals.refused, "block is unverified", "blocks are unverified"),
         strangers.late_words(facts.late) if facts.are_strangers_ignored else "",
@@ -227,9 +230,10 @@ def tails(totals: Totals) -> str:
                    f"messages up to the counters are missing{how}")
 
 
-def order(totals: Totals) -> str:
-    """What is to be said of the order, where that isn't the one of the numbers."""
-    return " But the listed messages don't stand in the order of their numbers." if totals.out_of_order else ""
+def order(facts: Facts) -> str:
+    """What is said of another order than that of the numbers, if it is no finding."""
+    is_other = facts.is_any_order and facts.totals.out_of_order
+    return " But the listed messages don't stand in the order of their numbers." if is_other else ""
 
 
 def covered(facts: Facts) -> str:

@@ -75,6 +75,8 @@ def add_arguments(parser: argparse.ArgumentParser) -> None:
     parser.add_argument("--counters", action="append", metavar="FILE", help="also say what is missing up to the "
                         "counters of FILE, as `ssign counters` wrote them, and do what --whole does; each loss is a "
                         "finding")
+    parser.add_argument("--any-order", action="store_true", help="take messages in any order: that they stand in another one "
+                        "than that of their numbers is no finding")
     parser.add_argument("--from", dest="begin", action="append", metavar="FILE", help="judge one night of a session that goes "
                         "on, which begins at the counters of FILE, as `ssign counters` wrote them of the night before: "
                         "nothing below them is missing; also does what --whole does")
@@ -239,6 +241,8 @@ class Verifier:
         # the payloads that are known beforehand
         self._known = Known([], [])
         self._owners: Optional[Owners] = None
+        # the option of ssign that makes the order a finding, or none
+        self._order = [] if arguments.any_order else ["--in-order"]
         self._take_form()
 
     def _take_form(self) -> None:
@@ -288,7 +292,7 @@ class Verifier:
         """Has ssign review the log in one run, which asks and is answered. Keeps the answers, and the report."""
         self._report = self._workplace.new_file("report")
         try:
-            with Asking(self._program, [*self.missing.words, *self._words], self._workplace, self._progress, self._report) as asking:
+            with Asking(self._program, [*self.missing.words, *self._order, *self._words], self._workplace, self._progress, self._report) as asking:
                 asking.feed(self._log.octets(self._progress))
                 self._keep(asking.questions(), trust)
                 with open(self.answers_path, "rb") as kept:
@@ -319,7 +323,8 @@ class Verifier:
         self._log.check_unchanged()
         listed, missing = self._listed, self.missing
         messages = messages_of(self._report)
-        survey = Survey(messages, self._read_notes(), bool(missing.words), missing.counters, missing.begin, SALVAGE in self._words)
+        survey = Survey(messages, self._read_notes(), bool(missing.words), missing.counters, missing.begin, SALVAGE in self._words,
+                        bool(self._order))
         beside: List[ReportVisitor] = []
         if listed is not None:
             listed.refuse_other(self._log)
@@ -345,7 +350,7 @@ class Verifier:
             asking.feed(filter(known.asks, candidates()))
             self._keep(asking.lines(lambda: None), trust)
             self._report = self._workplace.new_file("report")
-            self._status = self._read_again("review", self.missing.words, self._report)
+            self._status = self._read_again("review", [*self.missing.words, *self._order], self._report)
         return self._survey(self._status)
 
     def _reviewed(self, survey: Survey, trust: Trust, stamps: Stamps) -> Reviewed:
@@ -356,7 +361,7 @@ class Verifier:
                       self._broken_blocks(survey), 0 if self._listed is None else self._listed.compare(),
                       survey.on_sha1, arguments.allow_sha1, missing.begin is not None, stamps.sentences, claims,
                       arguments.ignore_strangers, survey.has_others, [shown_name(it) for it in trust.unbound_files(survey.joined)],
-                      dict(survey.other_keys), trust.given_words)
+                      dict(survey.other_keys), trust.given_words, arguments.any_order)
         return Reviewed(log, Finder(log, self._progress), self._read_notes(), survey, facts, bool(missing.words), missing.counters,
                         missing.begin)
 
