@@ -110,6 +110,20 @@ keys verify --key keys/public-key.pem --jobs 4 --nights manifest hurt
 holds 'a damaged night: status 1' test "$status" = 1
 holds 'a damaged night: its verdict' grep -q "^Night 9 (entry 9, night-09.frames): changed, .*; 1 stretch of the log is damaged ([0-9,]* octets)[;.]" out
 holds 'a damaged night: the verdict' grep -q '^Verdict: FINDINGS: nights 1 to 30: 29 of 30 nights are clean; with findings: night 9\.' out
+# a night whose messages stand from the last to the first, and whose entry has these octets
+mkdir turned && cp logs/* turned && python3 -B "$root/tests/verdicts.py" damage reversed logs/night-09.frames >turned/night-09.frames
+python3 -B "$root/tests/months.py" relist manifest turned relisted-turned
+keys verify --key keys/public-key.pem --jobs 4 --nights relisted-turned turned
+holds 'a night from the last to the first: status 1' test "$status" = 1
+holds 'a night from the last to the first: its verdict' grep -qE \
+    '^Night 9 \(entry 9, night-09.frames\): FINDINGS: of ([0-9]+) announced messages \1 are present and unchanged; [0-9]+ listed messages? (is|are) out of order\. Nothing is missing ' out
+holds 'a night from the last to the first: no other line' test "$(wc -l <out)" = 2
+nights 'a night from the last to the first, in any order' 0 "Nights 1 to 30: all 30 clean; $all." --any-order --nights relisted-turned turned
+# many differences: the verdict stands in front of them too
+for each in $(seq 40); do strays+=("stray-$each") && cp logs/night-05.frames "stray-$each"; done
+keys verify --key keys/public-key.pem --jobs 4 --nights manifest logs "${strays[@]}"
+holds 'many differences: the verdict stands in front' cmp <(head -n 1 out) <(tail -n 1 out)
+holds 'many differences: each has its line' test "$(grep -c '^  stray-.*: unknown' out).$(wc -l <out)" = 40.43
 # a night whose process is killed
 # shellcheck disable=SC2016
 printf '#!/bin/sh\nif [ "$1" = review ]; then echo x >>reviews; [ "$(wc -l <reviews)" != 9 ] || kill -KILL "$PPID"; fi\nexec %q "$@"\n' "$program" >killer

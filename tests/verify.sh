@@ -324,6 +324,14 @@ any_order 'another order' stored "$turned" "$other_order"
 keys verify --key keys/public-key.pem --any-order --json stored
 holds 'another order, which is taken: no object' test "$(grep -c '"line":"disorder"' out)" = 0
 holds 'another order, which is taken: its group' grep -Fq '"out_of_order":1,"first_out_of_order":4}' out
+# a stranger's block beside it: each of the two options accepts its own finding alone
+{ cat stored && frame '<110>1 - gate signer - - [ssign-cert VER="0121" RSID="1" SG="0" SPRI="0" TPBL="1" INDEX="1" FLEN="1" FRAG="x" SIGN="AAAA"]'; } >beside
+keys verify --key keys/public-key.pem --ignore-strangers beside
+holds 'another order, and a stranger: --ignore-strangers accepts no order' test "$status.$(grep -c '; 1 listed message is out of order; 1 block is unverified\.$' out)" = 1.1
+keys verify --key keys/public-key.pem --any-order beside
+holds 'another order, and a stranger: --any-order accepts no stranger' test "$status.$(grep -c '; 1 block is unverified\. But the listed messages don' out)" = 1.1
+keys verify --key keys/public-key.pem --any-order --ignore-strangers beside
+holds 'another order, and a stranger: both options' test "$status" = 0
 damage reversed
 turned='    out of order: 9 listed messages stand in front of the one with the number before, first number 2 at place 11'
 says 'all messages from the last to the first' 1 "$turned" \
@@ -544,7 +552,7 @@ as_reviewed 'up to counters: all is there' signed --counters counters
 keys verify --key keys/public-key.pem --json --counters counters signed
 holds 'up to counters: its groups' grep -Fq '"last":10,"gbc":2,"next":11,"next_gbc":3,"out_of_order":0,' out
 keys verify --key keys/public-key.pem --json signed
-holds 'without counters: no key of them' test "$(grep -c 'missing_\|next' out)" = 0
+holds 'without counters: no key of them' test "$(grep -c '"missing_\|"next' out)" = 0
 keys verify --key keys/public-key.pem --counters <(cat counters) - <signed
 says 'up to counters from a pipe' 0 "$all_there Nothing is missing up to the counters."
 

@@ -30,6 +30,7 @@ from .programs import find_program
 from .progress import Progress
 from .stamped import check_stamps, refuse_lone
 from .summaries import FEW, Runs
+from .text_verdict import LONG
 from .trust import read_public_keys
 from .verdict import unbound
 from .words import grouped, shown, shown_name, spelled
@@ -259,11 +260,10 @@ def lines_of(verdict: Verdict, is_json: bool) -> Iterator[str]:
         yield from (compact(it.fields()) for it in verdict.judged)
         yield compact(verdict.fields())
         return
-    if verdict.found:
-        yield "Manifest:"
-        yield from (f"  {it.text()}" for it in verdict.found)
-    yield from (it.text() for it in verdict.judged if it.status)
-    yield f"Verdict: {verdict.sentence()}"
+    said = f"Verdict: {verdict.sentence()}"
+    lines = ["Manifest:", *(f"  {it.text()}" for it in verdict.found)] if verdict.found else []
+    lines += [it.text() for it in verdict.judged if it.status]
+    yield from [said, *lines, said] if len(lines) >= LONG else [*lines, said]
 
 
 class Given:
