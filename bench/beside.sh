@@ -54,7 +54,7 @@ here = sorted(os.sched_getaffinity(0))
 subprocess.run([sys.executable, keys, "make", "key"], check=True)
 for per_block in (99, 10):
     with open("log", "wb") as log:
-        subprocess.run([sys.executable, keys, "sign", "--key", "key/private-key.pem", "--rsid", "1", "--host", "h", "--app", "s",
+        subprocess.run([sys.executable, keys, "sign", "--key", "key/private-key.pem", "--host", "h", "--app", "s",
                         "--count", str(per_block), "plain"], stdout=log, check=True)
     for processors in (here[:4], here[:1]):
         verify = [sys.executable, keys, "verify", "--key", "key/public-key.pem", "--jobs", str(len(processors))]

@@ -59,7 +59,7 @@ def make_log(path):
 make_log(os.path.join(work, "plain"))
 os.mkdir(os.path.join(work, "key"))
 subprocess.run([keys, "make", "--ver", "0111", os.path.join(work, "key")], check=True)
-run("ssign-keys sign", [keys, "sign", "--key", "key/private-key.pem", "--rsid", "1", "--ver", "0121", "--host", "h", "--app", "s",
+run("ssign-keys sign", [keys, "sign", "--key", "key/private-key.pem", "--ver", "0121", "--host", "h", "--app", "s",
                         "--count", str(per_block), "plain"], "log", runs=1)
 os.remove(os.path.join(work, "plain"))
 log = os.path.join(work, "log")

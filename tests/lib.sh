@@ -12,6 +12,8 @@ root=$(CDPATH='' cd -- "$(dirname -- "${BASH_SOURCE[0]}")/.." && pwd) || exit 1
 program=${SSIGN:-$root/crates/ssign/out/ssign}
 [[ $program == /* ]] || program=$PWD/$program
 name=$(basename -- "$0" .sh)
+# `ssign-keys sign` remembers which sessions were begun with a key. The tests give an RSID again, each for itself
+export SSIGN_SESSIONS=/dev/null
 passed=0
 failed=0
 status=0

@@ -298,7 +298,6 @@ def table(program):
         yield words + ["--%s=%s" % (option, text), "lines"], b"", wants % (option, shown(text), takes)
     yield sign + ["--rsid", "2", "lines"], b"", "--rsid can be given only once"
     yield sign + ["--host", "a", "--host", "b", "lines"], b"", "--host can be given only once"
-    yield sign[:4] + ["lines"], b"", "the following arguments are required: --rsid " + SEE % "sign"
     yield sign + ["--host", "-x", "lines"], b"", \
         "argument --host: expected one argument " + SEE % "sign" + "; a value that begins with a hyphen is given as in --host=-x"
 

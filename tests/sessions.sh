@@ -1,7 +1,7 @@
 #!/usr/bin/env bash
 # A session that goes on from run to run. `ssign-keys sign --state`: three nights against a model, stopped at each step, two
 # runs at once, and states that are damaged or another's (sessions.py). `ssign-rotated --one-session`: nights, late lines, stops,
-# a state that was put back.
+# a state that was put back. Which sessions were begun with a key is remembered beside it.
 # shellcheck source=tests/lib.sh
 . "$(dirname -- "$0")/lib.sh"
 need_program
@@ -31,10 +31,73 @@ keys() {
     status=$?
 }
 echo '<13>1 - h a p m - one' >log
-keys sign --key long/private-key.pem log
-expect 'without --state an RSID is wanted' 2 '' 'ssign-keys: the following arguments are required: --rsid (see `ssign-keys sign --help`)'
 keys sign --key long/private-key.pem --rsid 1 log
 holds 'without --state nothing is kept' test "$status" = 0 -a "$(ls)" = $'err\nlog\nlong\nother\nout\ntold\nwork'
+
+# ---- the sessions of a key
+# known: signs, as without SSIGN_SESSIONS, and has `begun` be the session of the signed log
+known() {
+    env -u SSIGN_SESSIONS timeout "$patience" "$root/tools/ssign-keys" sign --key long/private-key.pem "$@" >out 2>err </dev/null
+    status=$?
+    begun=$("$program" inspect <out | sed -n 's/^certificate 0 \(.*\) 0 0 .*/\1/p' | cut -d ' ' -f 1-4)
+}
+# taken WHAT RSID NAMES LAST [WORD..]: an RSID that isn't after the last one of these names is refused
+taken() {
+    known --rsid "$2" "${@:5}" log
+    expect "$1" 2 '' "ssign-keys: --rsid $2: with this key a session of $3 was begun with the RSID $4 ($PWD/long/private-key.pem.sessions), and one that begins needs a greater one: leave --rsid out. To go on in one session, sign with --state"
+}
+machine=$(uname -n)
+known log
+first=${begun##* }
+holds 'a session that begins without a name has that of the machine' test "$status" = 0 -a "${begun% *}" = "$machine - -" -a ! -s err
+holds 'its RSID is the time' test "$(($(date +%s) - first))" -ge 0 -a "$(($(date +%s) - first))" -lt 60
+known log
+holds 'the next one has a greater RSID' test "$status" = 0 -a "${begun##* }" -gt "$first"
+first=${begun##* }
+taken 'an RSID again' "$first" "$machine - -" "$first"
+taken 'a smaller RSID' 1 "$machine - -" "$first"
+known --rsid 7 --host h --app s log
+holds 'an RSID that is given' test "$status" = 0 -a "$begun" = 'h s - 7'
+holds 'the file of the sessions is for its owner alone' test "$(stat -c %a long/private-key.pem.sessions)" = 600
+holds 'the greatest RSIDs are known' grep -qxF 'h s - 7' long/private-key.pem.sessions
+taken 'the names, again' 7 'h s -' 7 --host h --app s
+known --host h --app s --rsid 9999999999 log
+known --host h --app s log
+expect 'no RSID is left' 2 '' "ssign-keys: a session of h s - has the greatest RSID that there is ($PWD/long/private-key.pem.sessions): begin with other names, by --app"
+known --rsid 6 --app z long/private-key.pem
+holds 'a log that is refused' test "$status" = 2 -a ! -s out
+known --rsid 6 --app z log
+holds 'it used nothing up' test "$status" = 0 -a "$begun" = "$machine z - 6"
+for it in 1 2 3 4 5; do
+    env -u SSIGN_SESSIONS "$root/tools/ssign-keys" sign --key long/private-key.pem --app both log >"at-once-$it" 2>err.$it &
+done
+wait
+holds 'runs at the same time begin five sessions' test "$(for it in 1 2 3 4 5; do "$program" inspect <"at-once-$it" | grep -m 1 -o 'both - [0-9]*'; done | sort -u | wc -l)" = 5
+# with --state
+known --rsid 8 --app goes log
+known --state begun --new-session --rsid 8 --app goes log
+expect 'a state begins no session that is known' 2 '' "ssign-keys: --rsid 8: with this key a session of $machine goes - was begun with the RSID 8 ($PWD/long/private-key.pem.sessions), and one that begins needs a greater one: leave --rsid out. To go on in one session, sign with --state"
+known --state begun --new-session --app goes log
+first=${begun##* }
+holds 'a state begins a session with the name of the machine' test "$status" = 0 -a "${begun% *}" = "$machine goes -"
+known --state begun log
+holds 'its session goes on' test "$status" = 0 -a "$begun" = "$machine goes - $first"
+taken 'a session of a state is known' "$first" "$machine goes -" "$first" --app goes
+# what can't be remembered
+SSIGN_SESSIONS=none/known keys sign --key long/private-key.pem --rsid 1 log
+holds 'no folder for the sessions: the log is signed' test "$status" = 0
+holds 'no folder for the sessions: a line says so' test "$(<err)" = "ssign-keys: warning: the sessions of this key can't be kept: $PWD/none/known.lock can't be opened: No such file or directory. So a session that is begun twice isn't noticed; SSIGN_SESSIONS names another file for them"
+SSIGN_SESSIONS=work keys sign --key long/private-key.pem --rsid 1 log
+holds 'sessions that can'"'"'t be read: a line says so' test "$status" = 0 -a "$(<err)" = "ssign-keys: warning: the sessions of this key aren't known: $PWD/work can't be read: it is no regular file. So a session that is begun twice isn't noticed; SSIGN_SESSIONS names another file for them"
+for it in 'h s - 7' $'h s - 7\nh s -\n' $'h s - 07\n'; do
+    printf '%s' "$it" >known
+    SSIGN_SESSIONS=known keys sign --key long/private-key.pem log
+    holds "sessions that aren't as they were written are refused: ${it@Q}" test "$status" = 2 -a ! -s out -a "$(grep -c "^ssign-keys: $PWD/known, which has the sessions of this key, .*: put it back as it was, or remove it and give no --rsid that was used$" err)" = 1
+    holds 'nothing is written to them' test "$(<known)" = "${it%$'\n'}"
+done
+printf 'h s - 7\nh s - 9\n' >known
+SSIGN_SESSIONS=known keys sign --key long/private-key.pem --host h --app s --rsid 8 log
+holds 'SSIGN_SESSIONS names the sessions' grep -qF "was begun with the RSID 9 ($PWD/known)" err
 
 # ---- nights of one session
 # fresh: a state, and no logs

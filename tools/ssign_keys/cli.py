@@ -23,7 +23,7 @@ TOOL = usage.Tool(
     examples={
         "make": ("mkdir -m 700 keys && ssign-keys make keys",),
         "sign": (
-            "ssign-keys sign --key keys/private-key.pem --rsid 1 --host gate --app signer messages.log > signed.frames",
+            "ssign-keys sign --key keys/private-key.pem --app signer messages.log > signed.frames",
             "ssign-keys sign --key keys/private-key.pem --state session --new-session --host gate monday.log > monday.frames",
             "ssign-keys sign --key keys/private-key.pem --state session tuesday.log > tuesday.frames",
         ),

@@ -2,6 +2,7 @@
 from __future__ import annotations
 
 import argparse
+import os
 from typing import List, Optional
 
 from .faults import Fault
@@ -32,6 +33,11 @@ def fill(arguments: argparse.Namespace, key: PublicKey) -> None:
         raise Fault(f"--ver {arguments.ver[0]} has a hash of {scheme.hash_bits} bits, and the number q of the key has "
                     f"{key.numbers.q.bit_length()}: leave --ver out, or use another key")
     arguments.count = arguments.count or [str(most_hashes(arguments, key))]
+
+
+def machine_name() -> str:
+    """The name of this machine as a HOSTNAME (RFC 5424, section 6): what can't stand in one becomes a hyphen."""
+    return "".join(it if "!" <= it <= "~" else "-" for it in os.uname().nodename)[:255] or "-"
 
 
 def scheme_of(arguments: argparse.Namespace) -> Scheme:

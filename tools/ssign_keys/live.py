@@ -31,7 +31,7 @@ from .words import shown_name
 
 # the options of a session, but for those that `live` says by itself
 NAMED = tuple(it for it in OPTIONS if it not in ("rsid", "stamp"))
-DEFAULTS = {"host": "the name of this machine", "app": "signer"}
+DEFAULTS = {"app": "signer"}
 
 
 def add_arguments(parser: argparse.ArgumentParser) -> None:

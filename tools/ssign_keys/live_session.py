@@ -8,7 +8,7 @@ import re
 from typing import Dict, List, Optional, Tuple
 
 from .counters_file import lines_of
-from .defaults import fill, most_hashes
+from .defaults import fill, machine_name, most_hashes
 from .faults import Fault
 from .keys import PublicKey
 from .live_disk import OUT, STATE, Disk
@@ -220,7 +220,7 @@ class Starter:
             raise Fault(f"no RSID is left: the greatest one is {MOST_RSID}, and the last session has {rsid}, or the clock is wrong"
                         ". Set the clock, or begin with other names, by --app, and other folders (L6)")
         fill(arguments, self._key)
-        usual = {**USUAL, "host": os.uname().nodename, "app": "signer"}
+        usual = {**USUAL, "host": machine_name(), "app": "signer"}
         options: Dict[str, str] = {it: (getattr(arguments, it) or [usual[it]])[0] for it in KEPT}
         if not self._arguments.count:
             options["count"] = str(most_hashes(arguments, self._key))

@@ -13,10 +13,11 @@ from typing import BinaryIO, Callable, List, Optional
 
 from .blocks import Session
 from .counters_file import lines_of
-from .defaults import USUAL_FIELDS, fill, most_hashes, only
+from .defaults import USUAL_FIELDS, fill, machine_name, most_hashes, only
 from .faults import Fault
 from .frames import frame_at
 from .keys import PublicKey
+from .known_sessions import KnownSessions, session_of
 from .logs import Log, Part
 from .output import file_pieces, write_out
 from .programs import Run
@@ -43,8 +44,8 @@ Write = Callable[[List[str], str, Log, BinaryIO], int]
 """Has ssign write a log with these answers. Gives its status."""
 
 
-class Rsid(argparse.Action):
-    """Takes --state. The session says its RSID then, so --rsid may be left out."""
+class Once(argparse.Action):
+    """Takes --state once."""
 
     def __call__(self, parser: argparse.ArgumentParser, namespace: argparse.Namespace, values: object,
                  option_string: Optional[str] = None) -> None:
@@ -52,27 +53,23 @@ class Rsid(argparse.Action):
         if getattr(namespace, self.dest) is not None:
             parser.error(f"{option_string} can be given only once")
         setattr(namespace, self.dest, values)
-        for action in parser._actions:
-            if "--rsid" in action.option_strings:
-                action.required = False
 
 
 def add_arguments(parser: argparse.ArgumentParser) -> None:
     """Says how a session goes on."""
-    parser.add_argument("--state", action=Rsid, metavar="FOLDER", help="sign in the session that FOLDER keeps, and go on with "
+    parser.add_argument("--state", action=Once, metavar="FOLDER", help="sign in the session that FOLDER keeps, and go on with "
                         "its numbers; options that name the session, its payload or its blocks may be left out then, and "
                         "may not differ, but for --stamp, --count and --copies")
     parser.add_argument("--new-session", action="store_true", help="begin a session in the folder of --state; the one before "
-                        "ends there, and its counters stay. Without --rsid its RSID is the time in seconds since 1970, or one "
-                        "more than that of the last session if that is greater")
+                        "ends there, and its counters stay")
 
 
 # ---- the words of a session
 
-def settle(arguments: argparse.Namespace, state: SessionState, key: PublicKey) -> Ongoing:
+def settle(arguments: argparse.Namespace, state: SessionState, key: PublicKey, known: KnownSessions) -> Ongoing:
     """Puts in the words that aren't given, as the session has them. Raises Fault where one that is given differs."""
     if arguments.new_session:
-        return begin(arguments, state, key)
+        return begin(arguments, state, key, known)
     ongoing = state.ongoing
     assert ongoing is not None
     if ongoing.key != key.fingerprint:
@@ -109,15 +106,16 @@ def is_number(word: str) -> bool:
     return word.isascii() and word.isdigit() and len(word) < 20
 
 
-def begin(arguments: argparse.Namespace, state: SessionState, key: PublicKey) -> Ongoing:
+def begin(arguments: argparse.Namespace, state: SessionState, key: PublicKey, known: KnownSessions) -> Ongoing:
     """A session that begins, with a greater RSID than each before."""
     last = state.last_rsid()
     ongoing = state.ongoing
     # of a session without certificate blocks nothing was written
     is_unused = ongoing is not None and not ongoing.certificates and ongoing.rsid > state.last_counted()
     given = only(arguments.rsid)
+    arguments.host = arguments.host or [machine_name()]
     if given is None:
-        arguments.rsid = [str(state.next_rsid())]
+        arguments.rsid = [str(known.reserve(arguments, state.next_rsid()))]
     elif not is_number(given) or int(given) > MOST_RSID:
         raise Fault(f"--rsid {quoted(given)}: it has to be a number from {RANGES['rsid']}")
     elif int(given) < last or int(given) == last and not is_unused:
@@ -126,6 +124,9 @@ def begin(arguments: argparse.Namespace, state: SessionState, key: PublicKey) ->
                     f"greater one{more}")
     else:
         arguments.rsid = [str(int(given))] * len(arguments.rsid)
+        session = session_of(arguments)
+        if session is not None:
+            known.refuse_used(session, is_again=int(given) == last)
     fill(arguments, key)
     for option in KEPT:
         if not getattr(arguments, option):
@@ -138,10 +139,12 @@ def begin(arguments: argparse.Namespace, state: SessionState, key: PublicKey) ->
 class Signing:
     """A run that signs a log in a session that goes on."""
 
-    def __init__(self, program: str, state: SessionState, ongoing: Ongoing, workplace: Workplace, progress: Progress) -> None:
+    def __init__(self, program: str, state: SessionState, ongoing: Ongoing, known: KnownSessions, workplace: Workplace,
+                 progress: Progress) -> None:
         """Nothing is done yet."""
         self._program = program
         self._state = state
+        self._known = known
         self._ongoing = ongoing
         self._workplace = workplace
         self._progress = progress
@@ -169,6 +172,7 @@ class Signing:
     def _begin(self, words: List[str], are_lines: bool, seal: Seal, write: Write) -> None:
         """Has the certificate blocks signed, which stand in front of each log of the session. Its RSID is used up before."""
         self._save(self._ongoing)
+        self._known.take(self._ongoing.session, is_again=True)
         with self._workplace.new_file("nothing") as file:
             nothing = Log(file, [Part("-", 0, 0)], are_lines, True)
             room = Room(self._ongoing.session, START, START)

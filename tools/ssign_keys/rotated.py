@@ -21,8 +21,10 @@ from datetime import datetime, timezone
 from typing import BinaryIO, Callable, Dict, Iterator, List, NamedTuple, Optional, Union
 
 from .counters_file import file_of
+from .defaults import machine_name
 from .faults import Fault
 from .files import NOT_REGULAR, is_shared, open_lock, open_regular, open_straight, reason
+from .known_sessions import VARIABLE
 from .manifest import name_for
 from .manifest_file import Appending
 from .manifest_form import Entry, Manifest, Mark, SetAside, read_manifest, read_mark
@@ -350,7 +352,7 @@ class Rotation:
             with open(passing.frames, "xb") as out:
                 status = self._keys_command(
                     ["sign", f"--key={os.path.join(self._keys, PRIVATE)}", *night.words,
-                     f"--host={self._arguments.host or os.uname().nodename}", f"--app={self._arguments.app}", "--lines",
+                     f"--host={self._arguments.host or machine_name()}", f"--app={self._arguments.app}", "--lines",
                      f"--max-len={MAX_LEN}", f"--set-aside={passing.aside}", "--", passing.lines], out)
                 os.fsync(out.fileno())
         except OSError as fault:
@@ -384,7 +386,9 @@ class Rotation:
 
     def _keys_command(self, words: List[str], out: BinaryIO) -> int:
         """Runs a command of ssign-keys. Gives its status, 0 or 1; raises Fault with its last words where it failed."""
-        environment = {**os.environ, "PYTHONPATH": os.path.dirname(os.path.dirname(os.path.realpath(__file__)))}
+        # a run that was stopped is begun again under its RSID, and the file rsid sees that no log gets that of another
+        environment = {**os.environ, "PYTHONPATH": os.path.dirname(os.path.dirname(os.path.realpath(__file__))),
+                       VARIABLE: os.devnull}
         said = self._workplace.new_file("said")
         try:
             child = self._workplace.start(

@@ -179,14 +179,14 @@ def write_state(path: str, state: State) -> None:
     replace(path, json.dumps({"form": FORM, **fields}, indent=1).encode("ascii") + b"\n")
 
 
-def replace(path: str, octets: bytes) -> None:
+def replace(path: str, octets: bytes, mode: int = 0o666) -> None:
     """Replaces a file as a whole, on the disk too: it is read as it was before, or as it is now."""
     part = path + ".new"
     try:
         # a folder that can't have its names put on the disk gets no new one
         folder = open_folder(os.path.dirname(path) or ".")
         try:
-            with open_anew(part) as file:
+            with open_anew(part, mode) as file:
                 file.write(octets)
                 file.flush()
                 os.fsync(file.fileno())
@@ -200,14 +200,14 @@ def replace(path: str, octets: bytes) -> None:
         raise Fault(f"{shown_name(fault.filename2 or fault.filename or path)} can't be written: {reason(fault)}") from fault
 
 
-def open_anew(path: str) -> BinaryIO:
+def open_anew(path: str, mode: int = 0o666) -> BinaryIO:
     """Opens a passing file that nobody else has: what a run left there that was killed, or whatever has the name, goes."""
     flags = os.O_WRONLY | os.O_CREAT | os.O_EXCL | os.O_NOFOLLOW | os.O_CLOEXEC
     try:
-        number = os.open(path, flags, 0o666)
+        number = os.open(path, flags, mode)
     except FileExistsError:
         os.unlink(path)
-        number = os.open(path, flags, 0o666)
+        number = os.open(path, flags, mode)
     return os.fdopen(number, "wb")
 
 

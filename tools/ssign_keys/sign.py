@@ -4,16 +4,17 @@ from __future__ import annotations
 import argparse
 import contextlib
 import subprocess
-from typing import BinaryIO, Iterator, List, Optional, Union
+from typing import BinaryIO, Callable, Iterable, Iterator, List, Optional, Union
 
 from . import expand as expand_options
 from . import form as forms
 from . import ongoing
 from . import set_aside as set_aside_options
 from . import wrapping as wrapping_options
-from .defaults import fill
+from .defaults import fill, machine_name
 from .faults import Fault
 from .keys import PrivateKey, read_private_key
+from .known_sessions import KnownSessions
 from .logs import Log, open_log
 from .programs import Refused, Run, add_limit_arguments, add_program_argument, find_program, handed_on, log_words
 from .progress import Progress
@@ -28,11 +29,12 @@ from .wrapping import Wrapping
 
 # the options of `ssign plan` that are handed on, with what each is
 OPTIONS = {
-    "rsid": ("N", "the number of the session, RSID: 0 to 9999999999; greater than that of any log signed before"),
+    "rsid": ("N", "the number of the session, RSID: 0 to 9999999999; greater than that of each session before with these "
+             "names (default: the time in seconds since 1970, or one more than that of the last session if that is greater)"),
     "payload": ("TEXT", "the payload, and not the name of its file (default: the present time, K and the key)"),
     "stamp": ("TEXT", "TIMESTAMP of all blocks (default: -)"),
     "pri": ("N", "PRI of all blocks: 0 to 191 (default: 110)"),
-    "host": ("TEXT", "HOSTNAME of all blocks (default: -)"),
+    "host": ("TEXT", "HOSTNAME of all blocks (default: the name of this machine)"),
     "app": ("TEXT", "APP-NAME of all blocks (default: -)"),
     "procid": ("TEXT", "PROCID of all blocks (default: -)"),
     "msgid": ("TEXT", "MSGID of all blocks (default: -)"),
@@ -49,7 +51,7 @@ def add_arguments(parser: argparse.ArgumentParser) -> None:
     """Says which words the command takes."""
     parser.add_argument("--key", required=True, metavar="PRIVATE.pem", help="the private key to sign with")
     for name, (value, meaning) in OPTIONS.items():
-        parser.add_argument(f"--{name}", action="append", required=name == "rsid", metavar=value, help=meaning)
+        parser.add_argument(f"--{name}", action="append", metavar=value, help=meaning)
     ongoing.add_arguments(parser)
     set_aside_options.add_arguments(parser)
     wrapping_options.add_arguments(parser)
@@ -71,11 +73,14 @@ def run(arguments: argparse.Namespace) -> int:
             aside.check()
             named_form = forms.named_form(arguments)
             key = read_private_key(arguments.key)
-            session = None
+            known = KnownSessions(arguments.key)
+            session = begun = None
             if state is None:
+                arguments.host = arguments.host or [machine_name()]
+                begun = known.begin(arguments)
                 fill(arguments, key.public)
             else:
-                session = ongoing.settle(arguments, state, key.public)
+                session = ongoing.settle(arguments, state, key.public, known)
             log = open_log([arguments.log], named_form, workplace, progress, arguments.max_expanded, refuses_links=True)
             words = log_words(arguments, log.are_lines)
             warn(arguments.log, log)
@@ -83,8 +88,12 @@ def run(arguments: argparse.Namespace) -> int:
             wrapping.count(program, words, signable, workplace, progress)
             words += handed_on(arguments, list(OPTIONS)) + wrapping.words()
 
+            def begin() -> None:
+                if begun is not None:
+                    known.take(begun)
+
             def seal_log(words: List[str], log: Log, check: Optional[Check] = None) -> str:
-                return seal(program, words, key, log, workplace, progress, check)
+                return seal(program, words, key, log, workplace, progress, check, begin)
 
             def write_log(words: List[str], seals_path: str, log: Log, out: Union[BinaryIO, int] = 1) -> int:
                 return write(program, words, seals_path, log, workplace, progress, out)
@@ -92,7 +101,7 @@ def run(arguments: argparse.Namespace) -> int:
             if state is None or session is None:
                 status = write_log(words, seal_log(words, signable), signable)
             else:
-                signing = ongoing.Signing(program, state, session, workplace, progress)
+                signing = ongoing.Signing(program, state, session, known, workplace, progress)
                 status = signing.sign(words, signable, seal_log, write_log)
             progress.clear()
             aside.notify()
@@ -126,15 +135,18 @@ def warn(name: str, log: Log) -> None:
 
 
 def seal(program: str, words: List[str], key: PrivateKey, log: Log, workplace: Workplace, progress: Progress,
-         check: Optional[Check] = None) -> str:
-    """Plans the log and signs what that wants and a check doesn't refuse. Gives the path of the answers file."""
+         check: Optional[Check], begin: Callable[[], None]) -> str:
+    """Plans the log and signs what that wants and a check doesn't refuse. Gives the path of the answers file.
+
+    `begin` is called when the plan has succeeded, before anything is signed.
+    """
     planning = Run(program, ["plan", *words], workplace, progress, log.rewind(), subprocess.PIPE)
 
     def tick() -> None:
         progress.show("planning", log.position(), log.size, "octets")
 
     def counted() -> Iterator[bytes]:
-        for count, line in enumerate(seals(planning.lines(tick), key, check), 1):
+        for count, line in enumerate(seals(after_first(planning.lines(tick), begin), key, check), 1):
             progress.show("signing", count, 0, "blocks")
             yield line
 
@@ -143,6 +155,14 @@ def seal(program: str, words: List[str], key: PrivateKey, log: Log, workplace: W
             put(file, line)
         finish(file)
     return workplace.path("seals")
+
+
+def after_first(lines: Iterable[bytes], act: Callable[[], None]) -> Iterator[bytes]:
+    """The same lines. What is to be done is done once the first one is there."""
+    for number, line in enumerate(lines):
+        if number == 0:
+            act()
+        yield line
 
 
 def write(program: str, words: List[str], seals_path: str, log: Log, workplace: Workplace, progress: Progress,
