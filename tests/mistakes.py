@@ -222,7 +222,9 @@ def table(program):
         yield at_end + ["--max-len", "x", "lines"], b"", wants % ("max-len", "x", "1 to 1048576")
         yield at_end + ["--max-messages", "99999999", "lines"], b"", wants % ("max-messages", "99999999", "1 to 10000000")
         yield at_end + ["--max-len", "9", "--max-len", "8", "lines"], b"", "--max-len can be given only once"
-        yield at_end + ["--nothing", "lines"], b"", "unrecognized arguments: --nothing (see `ssign-keys --help`)"
+        yield at_end + ["--nothing", "lines"], b"", "there is no option --nothing " + SEE % command[1]
+        yield at_end + ["--max-lne=5", "lines"], b"", "there is no option --max-lne: perhaps --max-len is meant " + SEE % command[1]
+        yield command[:2] + ["--frame"], b"", "there is no option --frame: perhaps --frames is meant " + SEE % command[1]
         yield at_end, b"", "the following arguments are required: LOG " + SEE % command[1]
         yield at_end + ["--max-len", "-1", "lines"], b"", wants % ("max-len", "-1", "1 to 1048576")
 
@@ -312,11 +314,13 @@ def table(program):
     yield verify + ["-dash"], b"", "the following arguments are required: LOG " + SEE % "verify" + "; the file -dash is named ./-dash"
 
     # the tools themselves
-    choices = "argument COMMAND: invalid choice: 'vreify' (choose from "
-    yield [KEYS, "vreify"], b"", (choices, "(see `ssign-keys --help`)")
-    yield [KEYS, "help", "vreify"], b"", (choices, "(see `ssign-keys --help`)")
-    yield [KEYS, b"v\xff"], b"", ("argument COMMAND: invalid choice: 'v\\xff' (choose from ", "(see `ssign-keys --help`)")
-    yield [ARCHIVE, "vreify"], b"", (choices, "(see `ssign-archive --help`)")
+    near = "there is no command vreify: perhaps verify is meant (see `ssign-keys --help`)"
+    yield [KEYS, "vreify"], b"", near
+    yield [KEYS, "help", "vreify"], b"", near
+    yield [KEYS, b"v\xff"], b"", "there is no command v\\xff (see `ssign-keys --help`)"
+    yield [KEYS, "unheard-of", "--frame"], b"", "there is no command unheard-of (see `ssign-keys --help`)"
+    yield [ARCHIVE, "reviwe"], b"", "there is no command reviwe: perhaps review is meant (see `ssign-archive --help`)"
+    yield [ARCHIVE, "review", "--whoel", "x"], b"", "there is no option --whoel: perhaps --whole is meant (see `ssign-archive review --help`)"
     yield [KEYS, "verify", "signed"], b"", ("", "")
     yield [KEYS, "make"], b"", "the following arguments are required: DIR " + SEE % "make"
 

@@ -11,11 +11,12 @@ needs none of what a command does.
 from __future__ import annotations
 
 import argparse
+import difflib
 import importlib
 import os
 import re
 from dataclasses import dataclass
-from typing import Dict, NoReturn, Optional, Protocol, Sequence, Tuple, cast
+from typing import Dict, Iterable, NoReturn, Optional, Protocol, Sequence, Tuple, cast
 
 from . import VERSION
 from .faults import Fault
@@ -129,11 +130,49 @@ def run(tool: Tool, words: Sequence[str]) -> int:
         return 2
     words = asked_help(words)
     try:
-        arguments = make_parser(tool, words).parse_args(words)
+        refuse_unknown_command(tool, words[0])
+        parser = make_parser(tool, words)
+        refuse_unknown_option(tool, words, parser)
+        arguments = parser.parse_args(words)
     except Mistake as mistake:
         raise Mistake(f"{mistake}{hint(words)}") from mistake
     status: int = arguments.run(arguments)
     return status
+
+
+def refuse_unknown_command(tool: Tool, word: str) -> None:
+    """Refuses a command that the tool hasn't, and names the nearest one."""
+    if not word.startswith("-") and word not in tool.commands:
+        raise Mistake(f"there is no command {shown_name(word)}{nearest(word, tool.commands)} (see `{tool.name} --help`)")
+
+
+def refuse_unknown_option(tool: Tool, words: Sequence[str], parser: Parser) -> None:
+    """Refuses an option that the command hasn't, and names the nearest one. What else is wrong, the parser finds."""
+    command = words[0]
+    if command not in tool.commands:
+        return
+    known = options_of(parser, command)
+    for word in words[1:]:
+        name = word.partition("=")[0]
+        if word == "--":
+            return
+        if word.startswith("--") and " " not in word and name not in known:
+            raise Mistake(f"there is no option {shown_name(name)}{nearest(name, known)} (see `{tool.name} {command} --help`)")
+
+
+def options_of(parser: Parser, command: str) -> Sequence[str]:
+    """The options of a command."""
+    for action in parser._actions:
+        if isinstance(action, argparse._SubParsersAction) and command in action.choices:
+            return list(action.choices[command]._option_string_actions)
+    return []
+
+
+def nearest(word: str, known: Iterable[str]) -> str:
+    """The name that was meant, if one is near: without hyphens in front, which would make any two options alike."""
+    names = {it.lstrip("-"): it for it in known if len(it) > 2}
+    near = difflib.get_close_matches(word.lstrip("-"), names, 1)
+    return f": perhaps {names[near[0]]} is meant" if near else ""
 
 
 def hint(words: Sequence[str]) -> str:
