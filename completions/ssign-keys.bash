@@ -7,7 +7,7 @@ _ssign_keys_offer() {
     [[ $current == = ]] && current=
     case $1 in
     words) mapfile -t COMPREPLY < <(compgen -W "$2" -- "$current") ;;
-    codes) mapfile -t COMPREPLY < <(compgen -W '' -- "$current") ;;
+    codes) mapfile -t COMPREPLY < <(compgen -W 'F1 F2 F3 F4 F5 F9 A1 A2 A3 A4 Q1 C1 C2 C3 C4 C5 C6 V1 E1 E2 W1 W2 P1 P2 O1 O2 O3 O6 O7 O8 O9 O10 O11 verified unverified missing unannounced session ok gap lost hole early beyond blocks tail tally unlisted refused spoilt damaged unlisted-count refused-count spoilt-count damaged-count torn end joined disputed incomplete malformed untrusted unaccepted absent plain unparsed signature certificate wrapped-plain wrapped-unparsed wrapped-signature wrapped-certificate wrapped-spoilt count want seal payload trust yes M1 M2 M3 M4 M5 M6 M7 M8 M9 M10 M11 M12 S1 S2 S3 S4 S5 S6 S7 S8 S9 L1 L2 L3 L4 L5 L6 L7 T1 T2 T3 T4' -- "$current") ;;
     files)
         compopt -o filenames 2>/dev/null
         mapfile -t COMPREPLY < <(compgen -f -- "$current")
@@ -27,7 +27,7 @@ _ssign_keys() {
         return
     fi
     if ((COMP_CWORD == 1)); then
-        _ssign_keys_offer words 'make sign live verify manifest stamp rotated seal answer help --help --version'
+        _ssign_keys_offer words 'make sign live verify manifest stamp rotated seal answer explain help --help --version'
         return
     fi
     ((COMP_CWORD > 3)) && second=${COMP_WORDS[COMP_CWORD - 2]}
@@ -157,6 +157,7 @@ _ssign_keys() {
     'answer --cert') _ssign_keys_offer files ;;
     'answer --max-payload') _ssign_keys_offer text ;;
     'answer --jobs') _ssign_keys_offer text ;;
+    'explain --ssign') _ssign_keys_offer files ;;
     *) _ssign_keys_words "$command" "$current" ;;
     esac
 }
@@ -221,7 +222,14 @@ _ssign_keys_words() {
             _ssign_keys_offer files
         fi
         ;;
-    help) _ssign_keys_offer words 'make sign live verify manifest stamp rotated seal answer' ;;
+    explain)
+        if [[ $2 == -* ]]; then
+            _ssign_keys_offer words '--help --json --ssign'
+        else
+            _ssign_keys_offer codes
+        fi
+        ;;
+    help) _ssign_keys_offer words 'make sign live verify manifest stamp rotated seal answer explain' ;;
     esac
 }
 

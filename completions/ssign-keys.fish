@@ -191,5 +191,10 @@ complete -c ssign-keys -n '__ssign_keys_command answer' -l at-signing-time -d 'j
 complete -c ssign-keys -n '__ssign_keys_command answer' -l max-payload -x -d 'look at payloads of so many octets'
 complete -c ssign-keys -n '__ssign_keys_command answer' -l jobs -x -d 'check signatures by so many processes (default'
 complete -c ssign-keys -n '__ssign_keys_command answer' -F
+complete -c ssign-keys -n __ssign_keys_command -a explain -d 'Explain a code or a word of the output'
+complete -c ssign-keys -n '__ssign_keys_command explain' -l help -s h -d 'show this help message and exit'
+complete -c ssign-keys -n '__ssign_keys_command explain' -l json -d 'write a JSON object for the code, or without a code one for each'
+complete -c ssign-keys -n '__ssign_keys_command explain' -l ssign -r -F -d 'the program ssign (default'
+complete -c ssign-keys -n '__ssign_keys_command explain' -a 'F1 F2 F3 F4 F5 F9 A1 A2 A3 A4 Q1 C1 C2 C3 C4 C5 C6 V1 E1 E2 W1 W2 P1 P2 O1 O2 O3 O6 O7 O8 O9 O10 O11 verified unverified missing unannounced session ok gap lost hole early beyond blocks tail tally unlisted refused spoilt damaged unlisted-count refused-count spoilt-count damaged-count torn end joined disputed incomplete malformed untrusted unaccepted absent plain unparsed signature certificate wrapped-plain wrapped-unparsed wrapped-signature wrapped-certificate wrapped-spoilt count want seal payload trust yes M1 M2 M3 M4 M5 M6 M7 M8 M9 M10 M11 M12 S1 S2 S3 S4 S5 S6 S7 S8 S9 L1 L2 L3 L4 L5 L6 L7 T1 T2 T3 T4'
 complete -c ssign-keys -n __ssign_keys_command -a help -d 'Prints the help of a command'
-complete -c ssign-keys -n '__ssign_keys_command help' -a 'make sign live verify manifest stamp rotated seal answer'
+complete -c ssign-keys -n '__ssign_keys_command help' -a 'make sign live verify manifest stamp rotated seal answer explain'

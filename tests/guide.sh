@@ -169,6 +169,37 @@ Usage: ssign explain <CODE>...
 For more information, try '"'--help'."
 done
 
+# ---- ssign-keys explain
+# its own codes, as the guide has them but for marks and the case of the first letter
+own=$(sed -nE 's/^- \*\*([LT][1-7])\*\*: (.*)$/\1 \2/p' "$guide" | sed -E -e 's/`//g' -e 's/\[([^]]*)\]\([^)]*\)/\1/g')
+explained() {
+    SSIGN=$program timeout "$patience" "$root/tools/ssign-keys" explain "$@" >"$scratch/out" 2>"$scratch/err" </dev/null
+    status=$?
+}
+if python3 -c 'import cryptography' 2>"$scratch/err"; then
+    holds 'the guide has eleven codes of ssign-keys' test "$(wc -l <<<"$own")" = 11
+    while read -r code text; do
+        explained "$code"
+        expect "ssign-keys explain $code" 0 "${text^}" ''
+        explained --json "${code,,}"
+        expect "ssign-keys explain --json $code" 0 "{\"line\":\"explanation\",\"table\":\"keys\",\"code\":\"$code\",\"text\":\"${text^}\"}" ''
+    done <<<"$own"
+    for code in F1 gap GAP 'ssign-keys: F1 0' '(F1)' S3 F6; do
+        word=${code#ssign-keys: }
+        read -r word _ <<<"${word//[()]/}"
+        "$program" explain "$word" >"$scratch/wanted" </dev/null
+        explained "$code"
+        expect "ssign-keys explain '$code'" 0 "$(<"$scratch/wanted")" ''
+    done
+    explained --json
+    holds 'ssign-keys explain --json begins as that of ssign' cmp -- <(head -n "$(wc -l <"$scratch/all")" "$scratch/out") "$scratch/all"
+    holds 'its own codes follow' test "$(($(wc -l <"$scratch/out") - $(wc -l <"$scratch/all")))" = 11
+    explained nothing
+    expect 'ssign-keys explain nothing' 2 '' 'ssign-keys: no explanation of "nothing": `ssign-keys explain --json` has all codes'
+    explained
+    expect 'ssign-keys explain' 2 '' 'ssign-keys: name a code or a word of the output, as in `ssign-keys explain S3`'
+fi
+
 # ---- three nights of one session
 # nights FILE: runs the block of commands with `--new-session`, in a folder of its own, and compares its last line with the block
 # that follows.

@@ -19,6 +19,7 @@ TOOL = usage.Tool(
         "rotated": "sign rotated logs, and keep what a later review needs of each",
         "seal": "sign what `ssign plan` wants to have signed",
         "answer": "answer what `ssign questions` asks about keys and signatures",
+        "explain": "explain a code or a word of the output",
     },
     examples={
         "make": ("mkdir -m 700 keys && ssign-keys make keys",),
@@ -39,6 +40,7 @@ TOOL = usage.Tool(
         "rotated": ("ssign-keys rotated --keys /etc/ssign --state /var/lib/ssign /var/log/signed/messages.log-2026-11-23",),
         "seal": ("ssign-keys seal keys/private-key.pem < plan > seals",),
         "answer": ("ssign-keys answer keys/public-key.pem < questions > answers",),
+        "explain": ("ssign-keys explain S3",),
     },
     package=__package__,
 )
