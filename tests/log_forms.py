@@ -1,16 +1,20 @@
 #!/usr/bin/env python3
-"""Whether a log is read as lines is told by its first octet, and an option overrules: tried against ssign itself.
+"""Whether a log is read as lines is found by its first octets, and an option overrules: tried against ssign itself.
 
     log_forms.py PROGRAM
 
-No log that PROGRAM, which is ssign, reads as frames may be taken for lines, and none that begins with `<` for frames.
+No log that PROGRAM, which is ssign, reads as frames may be taken for lines, and none that begins with `<` for frames. Else
+only a log whose first line is a text may be taken for lines.
 Logs come as files, by standard input, compressed, and several at once. The last line is `log_forms: N passed, M failed`.
 """
 import concurrent.futures
+import contextlib
 import gzip
+import io
 import lzma
 import os
 import random
+import re
 import subprocess
 import sys
 import tempfile
@@ -23,7 +27,9 @@ from ssign_keys.logs import open_log
 from ssign_keys.progress import Progress
 from ssign_keys.workplace import Workplace
 
-TAILS = [b"", b"\n", b" ", b" <13>1 - - - - - -", b"3>1 - - - - - - a\n", b"2 ab", b" a", b"5 <13>1", b"0 <", b"\r\n\n", b"\x1f\x8b", b"<", b"1 a1 b",
+# controls, but for the tab, the CR and the escape of colours
+UNSEEN = re.compile(rb"[\x00-\x08\x0b\x0c\x0e-\x1a\x1c-\x1f\x7f]")
+TAILS = [b"", b"an 15 09:15:07 gate su: root\n", b"\n", b" ", b" <13>1 - - - - - -", b"3>1 - - - - - - a\n", b"2 ab", b" a", b"5 <13>1", b"0 <", b"\r\n\n", b"\x1f\x8b", b"<", b"1 a1 b",
          b"\x00" * 20]
 
 passed = failed = 0
@@ -62,7 +68,8 @@ def form_of(logs, named=None, given=None):
             names.append("log%d" % number)
             with open(names[-1], "wb") as file:
                 file.write(octets)
-        with Workplace() as workplace:
+        # what it reports of a guess, mistakes.py compares
+        with Workplace() as workplace, contextlib.redirect_stderr(io.StringIO()):
             return open_log(names, named, workplace, Progress()).are_lines
     except Fault as fault:
         return str(fault)
@@ -92,6 +99,7 @@ def check_first_octets(program):
     with concurrent.futures.ThreadPoolExecutor(min(4, os.cpu_count() or 1)) as pool:
         as_frames = list(pool.map(lambda it: reads(program, it), logs))
     frames = sum(as_frames)
+    guessed = 0
     for octets, is_read in zip(logs, as_frames):
         found = form_of([octets])
         if octets.startswith((b"\x1f\x8b", b"\x28\xb5\x2f\xfd", b"\xfd7zXZ\x00")):
@@ -99,8 +107,13 @@ def check_first_octets(program):
             continue
         if octets.startswith(b"<"):
             tell("%r is lines" % octets, "" if found is True and not is_read else "%r" % (found,))
+        elif found is True:
+            line, end, _ = octets.partition(b"\n")
+            guessed += 1
+            tell("%r is a line of text" % octets, "" if end and not is_read and not UNSEEN.search(line) else "%r" % (found,))
         else:
             tell("%r isn't taken for lines" % octets, "" if found is False else "%r" % (found,))
+    tell("some are taken for lines of text", "" if 100 < guessed < len(logs) // 4 else str(guessed))
     tell("some of them are frames", "" if 50 < frames < len(logs) // 2 else "%d of %d" % (frames, len(logs)))
     print("log_forms: %d logs by their first octet, of which ssign reads %d as frames" % (len(logs), frames))
 
@@ -125,15 +138,16 @@ def check_random(program):
 
 def check_several():
     """Logs of two forms, and without an octet."""
-    frames, lines, other = b"3 abc", b"<13>1\n", b"Jan 15\n"
+    frames, lines, other, torn = b"3 abc", b"<13>1\n", b"Jan 15\n", b"Jan 15"
     for log in ([b""], [b"", b""], [gzip.compress(b"")]):
         expect("no octet", False, log)
         expect("no octet, by an option", True, log, named=True)
-    for logs in ([frames, frames], [frames, b"", frames], [other, frames]):
+    for logs in ([frames, frames], [frames, b"", frames], [torn, frames]):
         expect("%r" % (logs,), False, logs)
     expect("lines alone", True, [lines, b"", lines, gzip.compress(lines)])
+    expect("lines of text", True, [lines, other, gzip.compress(other)])
     for logs, first, second in (([lines, frames], 0, 1), ([frames, lines], 1, 0), ([b"", lines, b"", lines, frames], 1, 4),
-                                ([lines, other], 0, 1), ([frames, frames, gzip.compress(lines)], 2, 0), ([gzip.compress(frames), lines], 1, 0)):
+                                ([lines, torn], 0, 1), ([frames, other], 1, 0), ([frames, frames, gzip.compress(lines)], 2, 0), ([gzip.compress(frames), lines], 1, 0)):
         expect("%r" % (logs,), "log%d: this is one message a line, and log%d isn't: " % (first, second), logs)
         for named in (True, False):
             found = form_of(logs, named=named)

@@ -12,8 +12,10 @@ import functools
 import json
 import os
 import re
+import struct
 import subprocess
 import sys
+import tarfile
 import tempfile
 import traceback
 import tty
@@ -31,6 +33,9 @@ import ssign_keys.verify
 TOOLS = {KEYS: ssign_keys.cli.main, ARCHIVE: ssign_archive.cli.main}
 LINE = b"<13>1 - - - - - - %s"
 SEE = "(see `ssign-keys %s --help`)"
+GUESS = "it is read as one message a line, as it begins with a line of text; --frames reads octet counts"
+# the four orders of octets of pcap, and pcapng: draft-ietf-opsawg-pcap, section 4, and draft-ietf-opsawg-pcapng, section 4.1
+CAPTURES = [struct.pack(order + "IHH", magic, 2, 4) for order in "<>" for magic in (0xa1b2c3d4, 0xa1b23c4d)] + [struct.pack("<III", 0x0a0d0d0a, 28, 0x1a2b3c4d)]
 NAMES = ["messages.log", "-dash", "--help", "my log", "new\nline", "\x1b[2J", "back\\slash", b"\xff\xfe.log", "\u00fc\u00f6.log", "'q'\"", "x" * 200]
 
 passed = failed = 0
@@ -142,6 +147,9 @@ def write_logs():
     write("binary", b"\x00\x01\x02\x03")
     write("zero", b"019 " + LINE % b"a")
     write("between", framed(two[0]) + b"\n" + framed(two[1]))
+    write("ended", framed(*two) + b"\n")
+    with tarfile.open("tar", "w", tarfile.USTAR_FORMAT) as archive:
+        archive.add("lines")
     write("inside", framed(two[0]) + b"1x " + two[1])
     write("long-line", lines(two[0], LINE % (b"x" * 81)))
     write("long-frame", framed(two[0], LINE % (b"x" * 81)))
@@ -153,6 +161,18 @@ def write_logs():
     write("crlf", b"<13>1 - - - - - -\r\n")
     write("block", framed(two[0], b"<110>1 - - - - - [ssign VER=\"0111\"]"))
     write("count-x", b"count x\n")
+
+
+def write_nights():
+    """Two nights of one session, with the counters of the first, and a signed log in an archive."""
+    for name, words in (("monday", ["--new-session", "--rsid", "7", "--host", "h"]), ("tuesday", [])):
+        with open(name, "wb") as signed:
+            subprocess.run([KEYS, "sign", "--key", "keys/private-key.pem", "--state", "session", *words, "lines"], stdout=signed, check=True)
+        subprocess.run([KEYS, "verify", "--key", "keys/public-key.pem", "--counters-out", "counted-" + name, name], stdout=subprocess.DEVNULL,
+                       stderr=subprocess.DEVNULL, check=False)
+    subprocess.run([KEYS, "verify", "--key", "keys/public-key.pem", "--counters-out", "counted", "signed"], stdout=subprocess.DEVNULL, check=False)
+    with tarfile.open("tar-of-frames", "w", tarfile.USTAR_FORMAT) as archive:
+        archive.add("signed")
 
 
 @functools.lru_cache(maxsize=None)
@@ -180,6 +200,10 @@ def table(program):
     length = len(LINE % b"a")
     frame = len(framed(LINE % b"a"))
     hint = "this looks like one message a line: use --lines (F1)"
+    no_pri = "%s: " + GUESS + "\nssign-keys: %s: place 0 (M1 at its octet 0: " + sentence(program, "M1") + "): " + none_of
+    objects = "these are objects of JSON, and no messages: have the daemon write the form of RFC 5424 (F1)"
+    journal = "this is the journal of systemd, and no log: `ssign-keys live --journal` signs its messages (F1)"
+    capture = "this is a capture of packets, and no log (F1)"
     unframed = "this looks like one message a line: leave --frames out (F1)"
     compressed = "it is compressed by %s: hand over its contents (`%s`) (F1)"
     warned = "warning: %s: this looks like octet-counted frames, and is read as lines\nssign-keys: "
@@ -187,9 +211,15 @@ def table(program):
     wants = '--%s "%s": it has to be a number from %s'
     for command in (verify, sign):
         at_end = [*command]
-        yield at_end + ["old"], b"", "old: " + hint
-        yield at_end + ["-"], b"Jan 15 x\n", "standard input: " + hint
-        yield at_end + ["dated"], b"", "dated: " + hint
+        yield at_end + ["-"], b"Jan 15 x", "standard input: " + hint
+        yield at_end + ["-"], b"a83 <13>1 - - - - - - x\n", "standard input: octet 0, `a`, can't stand in the length of the frame that begins at octet 0 (F1)"
+        yield at_end + ["tar"], b"", "tar: this is an archive of tar: hand over a log of it (`tar -xOf ARCHIVE LOG`) (F1)"
+        for front in (b'{"message":"x"}\n', b'[{"message":"x"}]\n'):
+            yield at_end + ["-"], front, "standard input: " + objects
+        for front in (b"__CURSOR=s=1\n", b"__REALTIME_TIMESTAMP=1\n", b'{"__CURSOR":"s=1"}\n', b"LPKSHHRH\0\0"):
+            yield at_end + ["-"], front, "standard input: " + journal
+        for front in CAPTURES:
+            yield at_end + ["-"], front, "standard input: " + capture
         yield at_end + ["--frames", "lines"], b"", "lines: " + unframed
         yield at_end + [""], b"", "the name of a log is empty; - is standard input"
         yield at_end + ["--lines", "--frames", "lines"], b"", "--lines and --frames exclude each other: a log has one form"
@@ -234,7 +264,7 @@ def table(program):
     yield verify + ["lines", "frames"], b"", both
     yield verify + ["frames", "lines"], b"", both
     yield verify + ["empty", "frames", "empty", "lines"], b"", both
-    yield verify + ["lines", "old"], b"", both.replace("frames isn't", "old isn't")
+    yield verify + ["lines", "binary"], b"", both.replace("frames isn't", "binary isn't")
     yield verify + ["lines", "blank-line"], b"", \
         "blank-line: line 2, octet %d: %s" % (length + 1, blank)
     yield verify + ["--max-messages", "3", "frames", "-"], framed(LINE % b"c", LINE % b"d"), \
@@ -262,7 +292,13 @@ def table(program):
 
     # what is to be signed: in frames nothing may be damaged, and verify reads them on
     yield sign + ["zero"], b"", "zero: octet 0, `0`, can't stand in the length of the frame that begins at octet 0 (F1)"
-    yield sign + ["between"], b"", "between: octet %d, a line feed, stands where the length of the next frame should begin (F1)" % frame
+    yield sign + ["between"], b"", "between: octet %d, a line feed, stands where the length of the next frame should begin: have the log stored " \
+        "without line feeds after its frames, or as one message a line (F1)" % frame
+    yield sign + ["ended"], b"", "ended: octet %d, a line feed, stands where the length of the next frame should begin: the log ends with it, so " \
+        "leave it out (`head -c %d`) (F1)" % (2 * frame, 2 * frame)
+    for name in ("old", "dated"):
+        yield sign + [name], b"", no_pri % (name, name)
+    yield sign + ["-"], b"Jan 15 x\n", no_pri % ("standard input", "standard input")
     yield sign + ["inside"], b"", "inside: octet %d, `x`, can't stand in the length of the frame that begins at octet %d (F1)" % (frame + 1, frame)
     yield sign + ["--max-len", "20", "long-frame"], b"", \
         "long-frame: the length of a frame is over --max-len 20 with its digit at octet %d: raise it, up to 1048576 (F2)" % (frame + 1)
@@ -273,7 +309,7 @@ def table(program):
     yield sign + ["-"], LINE % b"a", "standard input: line 1, octet 0: " + cut
     yield sign + ["--lines", "frames"], b"", warned % "frames" + "frames: " + framed_too + " (P1)"
     yield sign + ["-"], b"12", "standard input: octet 0: " + cut
-    yield sign + ["no-5424"], b"", \
+    yield sign + ["--no-wrap", "no-5424"], b"", \
         "no-5424: place 1 (M2 at its octet 4: %s): " % sentence(program, "M2") + none_of
     yield sign + ["bad-host"], b"", \
         "bad-host: place 1 (M4 at its octet 8: %s): " % sentence(program, "M4") + none_of
@@ -358,6 +394,32 @@ def warnings():
     yield sign + ["--max-len", "1048576", "-"], log, 0, said % ("standard input", "1 of 2 lines end with a CR, which is signed as a part of the message")
     yield [KEYS, "verify", "--key", "keys/public-key.pem", "--lines", "signed"], b"", 1, \
         said % ("signed", "this looks like octet-counted frames, and is read as lines")
+    verify = [KEYS, "verify", "--key", "keys/public-key.pem"]
+    nothing = "the log is empty, so it shows nothing: only counters or a manifest show whether something is missing"
+    yield verify + ["empty"], b"", 1, said % ("empty", nothing)
+    yield verify + ["-"], b"", 1, said % ("standard input", nothing)
+    yield verify + ["signed", "empty"], b"", 1, said % ("empty", nothing)
+    yield verify + ["/dev/null"], b"", 1, ""
+    yield verify + ["--counters", "counted", "empty"], b"", 1, ""
+    yield verify + ["--allow-sha1", "signed"], b"", 0, ""
+    for name in ("old", "dated"):
+        yield verify + [name], b"", 1, "ssign-keys: %s: %s\n" % (name, GUESS)
+        yield verify + ["--lines", name], b"", 1, ""
+    yield verify + ["-"], b"Jan 15 x\n", 1, "ssign-keys: standard input: %s\n" % GUESS
+    fed = "ssign-keys: %s: each damaged octet is a line feed %s. Have the log stored without it, because octets that nobody signed are a finding\n"
+    yield verify + ["ended"], b"", 1, fed % ("ended", "after the last frame")
+    yield verify + ["between"], b"", 1, fed % ("between", "between frames")
+    yield verify + ["tar-of-frames"], b"", 1, said % ("tar-of-frames", "this is an archive of tar: hand over a log of it (`tar -xOf ARCHIVE LOG`)")
+    part = "ssign-keys: the log may be a part of the session 'h - - 7', whose first numbers aren't in it: --from names the counters with which the " \
+        "part before ends; without them, give all parts\n"
+    yield verify + ["tuesday"], b"", 1, part
+    yield verify + ["monday", "tuesday"], b"", 1, ""
+    yield verify + ["--from", "counted-monday", "tuesday"], b"", 1, ""
+    wrapped = "ssign-keys: 1 message was signed in a wrap each, which holds all its octets:\n%s  place 1: M2 at octet 4: The PRI isn't followed by " \
+        "1 and a space\n"
+    why = "  This is so because all of these have the form of RFC 3164; --no-wrap refuses such a log\n"
+    yield sign + ["no-5424"], b"", 0, wrapped % why
+    yield sign + ["--wrap", "no-5424"], b"", 0, wrapped % ""
     yield sign + ["lines"], b"", 0, ""
     yield sign + ["frames"], b"", 0, ""
     yield sign + ["-"], framed(LINE % b"a\r\n"), 0, ""
@@ -369,6 +431,21 @@ def check_warnings():
             status, out, said = runs(words, given)
             fault = "" if (status, said.decode()) == (wanted_status, wanted) and out else "status %d, %d octets, %r" % (status, len(out), said)
             tell("%s %s, %s" % (words[1], words[-1], runs.__name__), fault)
+
+
+def check_waiting():
+    """A run whose standard input is a terminal says that it waits."""
+    for words in (["verify", "--key", "keys/public-key.pem", "-"], ["sign", "--key", "keys/private-key.pem", "-"], ["seal", "keys/private-key.pem"],
+                  ["answer", "keys/public-key.pem"]):
+        ours, theirs = os.openpty()
+        run = subprocess.Popen([KEYS, *words], stdin=theirs, stdout=subprocess.PIPE, stderr=subprocess.PIPE)
+        os.close(theirs)
+        first = run.stderr.readline()
+        os.write(ours, b"\x04")
+        run.communicate(timeout=60)
+        os.close(ours)
+        wanted = b"ssign-keys: standard input is a terminal: this waits for what you type, up to Ctrl-D at the front of a line\n"
+        tell("%s waits for a terminal" % words[0], "" if first == wanted else repr(first))
 
 
 def check_helps(program):
@@ -411,11 +488,13 @@ def main():
         subprocess.run("gzip -c frames | gzip -c >twice.gz", shell=True, check=True)
         with open("signed", "wb") as signed:
             subprocess.run([KEYS, "sign", "--key", "keys/private-key.pem", "--rsid", "1", "lines"], stdout=signed, check=True)
+        write_nights()
         cases = list(table(program))
         for case in cases:
             tell(" ".join(it if isinstance(it, str) else repr(it) for it in case[0][1:]), check(case))
         print("mistakes: %d command lines, each on a terminal and without one" % len(cases))
         check_warnings()
+        check_waiting()
         check_helps(program)
         os.chdir("/")
     print("mistakes: %d passed, %d failed" % (passed, failed))

@@ -829,6 +829,18 @@ holds 'sources.sh: a pipe among the sources is refused' test "$(timeout 10 "$cop
 ssign "$tools" review </dev/null
 expect 'and ./ssign does not hang there' 2 '' 'SOME TEXT'
 
+# a command that only ssign-keys has, whatever program is here
+list_commands
+ours=" ${commands[*]} "
+theirs=0
+while read -r word; do
+    [[ $ours != *" $word "* && $word != help ]] || continue
+    theirs=$((theirs + 1))
+    ssign "$tools" "$word" --key x </dev/null
+    expect "./ssign $word" 2 '' "ssign: $word is a command of ssign-keys: tools/ssign-keys $word"
+done < <("$root/tools/ssign-keys" --help </dev/null | sed -nE 's/^    ([a-z]+) .*/\1/p')
+holds 'some commands are of ssign-keys alone' test "$theirs" = 8
+
 # A limit of file sizes is a failed write and no signal: 1024 octets come, and then W1
 seq 1 500 >"$scratch/many"
 run inspect --lines <"$scratch/many"

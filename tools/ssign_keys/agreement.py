@@ -52,6 +52,8 @@ class Survey(ReportVisitor):
         self._groups = 0
         # the groups of the present session in which a number is announced
         self._known: Set[Tuple[int, int]] = set()
+        # the first session in which the numbers of a group don't begin with 1
+        self.later: Optional[Session] = None
         # how many sessions rest on SHA-1
         self.on_sha1 = 0
         # how many blocks of joined sessions are validly signed
@@ -142,6 +144,11 @@ class Survey(ReportVisitor):
         greatest = None if self._facts is None else self._facts.greatest.get((group.sg, group.spri))
         self.reach.add(group.session, group.sg, group.spri, group.last, greatest, group.out_of_order,
                        group.first_out_of_order if group.out_of_order else None, group.first)
+
+    def hole(self, group: Group, first: int, last: int) -> None:
+        """Keeps a session whose front isn't here."""
+        if first == 1 and self.later is None:
+            self.later = group.session
 
     def tail(self, session: Session, sg: int, spri: int, first: int, last: int) -> None:
         """Keeps a group of which no other line has anything, because nothing of it is announced."""

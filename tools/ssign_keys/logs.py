@@ -22,6 +22,7 @@ from .faults import Fault
 from .files import IS_LINK, is_shared, open_given, reason
 from .form import form_of as form_of_log
 from .progress import Progress
+from .streams import say_waiting
 from .walk import LONGEST, Walk
 from .words import shown_name
 from .workplace import Workplace, finish, put
@@ -233,6 +234,7 @@ def open_standard_input() -> BinaryIO:
     """Opens standard input a second time, so that it can be closed."""
     if sys.stdin is None:
         raise Fault("standard input is closed")
+    say_waiting()
     try:
         return cast(BinaryIO, os.fdopen(os.dup(0), "rb", buffering=0))
     except OSError as error:

@@ -320,10 +320,23 @@ def logs_in(folder: str, pattern: str, manifest: str) -> Iterator[Tuple[str, str
         raise Fault(f"the folder {shown_name(folder)} can't be read: {fault.strerror}") from fault
     for name in names:
         path = os.path.join(folder, name)
-        if os.path.isdir(path) or (os.path.exists(path) and os.path.samefile(path, manifest)):
+        if os.path.isdir(path):
+            name_below(path, pattern)
+            continue
+        if os.path.exists(path) and os.path.samefile(path, manifest):
             continue
         if fnmatch.fnmatchcase(bare(name), pattern) or fnmatch.fnmatchcase(name, pattern):
             yield path, name
+
+
+def name_below(folder: str, pattern: str) -> None:
+    """Reports a file below the folder of logs that has the name of a log, because it isn't looked at."""
+    for path, _, names in os.walk(folder):
+        for name in sorted(names, key=os.fsencode):
+            if not name.startswith(".") and fnmatch.fnmatchcase(bare(name), pattern):
+                notify(f"ssign-keys: warning: {shown_name(os.path.join(path, name))} lies below the folder of the logs, and isn't looked "
+                       "at: check its folder by itself, or move it")
+                return
 
 
 def sized_at(path: str, name: str, workplace: Workplace) -> Stored:

@@ -2,12 +2,13 @@
 from __future__ import annotations
 
 import argparse
+import os
 import re
-from typing import Callable, Dict, NamedTuple, Optional, Tuple
+from typing import Callable, Dict, NamedTuple, Optional, Sequence, Tuple
 
 from .explanations import explained
 from .faults import Fault
-from .likely import LINES, is_surely_framed, likely_cause, looks_framed
+from .likely import FRONT, LINES, is_surely_framed, likely_cause, looks_framed
 from .logs import Log
 from .programs import Refused
 from .schemes import VERSIONS
@@ -17,14 +18,13 @@ from .walk import Walk, read_at
 from .words import shown, shown_name
 from .workplace import notify
 
-# the front of a log, by which it is known
-FRONT = 512
 # what the options of numbers take
 RANGES = {"rsid": "0 to 9999999999", "pri": "0 to 191", "count": "1 to 99", "frag": "1 to 9999", "copies": "1 to 9",
           "max-len": "1 to 1048576", "max-messages": "1 to 10000000"}
 MAX_LEN = "65536"
 # the front of an explanation, `O6 or O6 PLACE: `, says what the number after a code is
 OPERAND = re.compile(r"(?:[A-Z][0-9]+ or )?[A-Z][0-9]+ (OFFSET|PLACE|LINE): ")
+LINE_FEED = "a line feed"
 UNEXPLAINED = "ssign refuses with a code that it doesn't explain"
 
 
@@ -47,8 +47,7 @@ class Case(NamedTuple):
     @property
     def name(self) -> str:
         """The log: by its name, where one alone was given."""
-        names = getattr(self.arguments, "logs", None) or [self.arguments.log]
-        return named(names[0]) if len(names) == 1 else "all logs together"
+        return log_name(getattr(self.arguments, "logs", None) or [self.arguments.log])
 
     def octet(self) -> Tuple[str, int, int]:
         """The log in which the octet lies, the octet of it, and where that log begins."""
@@ -68,6 +67,11 @@ class Case(NamedTuple):
         """The line in which the octet lies, in a log of lines that begins there."""
         pieces = (read_at(self.opened().file, at, min(1 << 20, self.where - at)) for at in range(start, self.where, 1 << 20))
         return 1 + sum(piece.count(b"\n") for piece in pieces)
+
+
+def log_name(names: Sequence[str]) -> str:
+    """The name of a log that was given in one file, or else of all of them."""
+    return named(names[0]) if len(names) == 1 else "all logs together"
 
 
 def named(name: str) -> str:
@@ -137,6 +141,28 @@ def warn_of_form(log: Log) -> None:
             notify(f"ssign-keys: warning: {named(part.name)}: this looks like octet-counted frames, and is read as lines")
 
 
+def warn_of_empty(log: Log) -> None:
+    """Reports each log without an octet, from which nothing can be missing. Whoever names /dev/null knows."""
+    for part, end in log.spans():
+        if part.offset == end and part.name != os.devnull:
+            notify(f"ssign-keys: warning: {named(part.name)}: the log is empty, so it shows nothing: only counters or a manifest show "
+                   "whether something is missing")
+
+
+def warn_of_damage(log: Log) -> None:
+    """Reports what damaged octets most likely are: the front of another kind of file, or line feeds after frames."""
+    if not log.damage:
+        return
+    first = log.damage[0]
+    cause = likely_cause(read_at(log.file, 0, FRONT)) if first.offset == 0 else None
+    if cause not in (None, LINES):
+        notify(f"ssign-keys: warning: {named(log.parts[0].name)}: {cause}")
+    if log.damage.octets == len(log.damage) and all(read_at(log.file, it, 1) == b"\n" for it, _ in log.damage.gaps()):
+        where = "after the last frame" if first.offset == log.size - 1 else "between frames"
+        notify(f"ssign-keys: {log_name([it.name for it in log.parts])}: each damaged octet is a line feed {where}. Have the log stored without it, because "
+               "octets that nobody signed are a finding")
+
+
 # ---- own words: a cause that ssign doesn't know, or options that ssign doesn't have
 
 def framed(case: Case) -> Optional[str]:
@@ -170,13 +196,21 @@ def bad_length(case: Case) -> str:
             return f"{name}: {cause}"
     what = spelled(read_at(case.opened().file, case.where, 1))
     if octet == frame and frame > 0:
-        return f"{name}: octet {octet}, {what}, stands where the length of the next frame should begin"
+        act = line_feed_act(case, octet) if what == LINE_FEED else ""
+        return f"{name}: octet {octet}, {what}, stands where the length of the next frame should begin{act}"
     return f"{name}: octet {octet}, {what}, can't stand in the length of the frame that begins at octet {frame}"
+
+
+def line_feed_act(case: Case, octet: int) -> str:
+    """What to do about a line feed after a frame."""
+    if case.where == case.opened().size - 1:
+        return f": the log ends with it, so leave it out (`head -c {octet}`)"
+    return ": have the log stored without line feeds after its frames, or as one message a line"
 
 
 def spelled(octet: bytes) -> str:
     """An octet as a person names it."""
-    names = {b"\n": "a line feed", b"\r": "a carriage return", b" ": "a space", b"": "the end"}
+    names = {b"\n": LINE_FEED, b"\r": "a carriage return", b" ": "a space", b"": "the end"}
     return names.get(octet, f"`{shown(octet)}`")
 
 

@@ -27,6 +27,8 @@ from .unsigned import warning
 from .workplace import Workplace, finish, put, notify
 from .wrapping import Wrapping
 
+# what `ssign plan` refuses a message with that is none of RFC 5424
+NO_MESSAGE = "O2"
 # the options of `ssign plan` that are handed on, with what each is
 OPTIONS = {
     "rsid": ("N", "the number of the session, RSID: 0 to 9999999999; greater than that of each session before with these "
@@ -82,11 +84,11 @@ def run(arguments: argparse.Namespace) -> int:
             else:
                 session = ongoing.settle(arguments, state, key.public, known)
             log = open_log([arguments.log], named_form, workplace, progress, arguments.max_expanded, refuses_links=True)
-            words = log_words(arguments, log.are_lines)
+            reading = log_words(arguments, log.are_lines)
             warn(arguments.log, log)
-            signable = aside.sort_out(program, words, log, workplace, progress)
-            wrapping.count(program, words, signable, workplace, progress)
-            words += handed_on(arguments, list(OPTIONS)) + wrapping.words()
+            signable = aside.sort_out(program, reading, log, workplace, progress)
+            wrapping.count(program, reading, signable, workplace, progress)
+            words = [*reading, *handed_on(arguments, list(OPTIONS)), *wrapping.words()]
 
             def begin() -> None:
                 if begun is not None:
@@ -99,7 +101,14 @@ def run(arguments: argparse.Namespace) -> int:
                 return write(program, words, seals_path, log, workplace, progress, out)
 
             if state is None or session is None:
-                status = write_log(words, seal_log(words, signable), signable)
+                try:
+                    seals_path = seal_log(words, signable)
+                except Refused as refused:
+                    if refused.code != NO_MESSAGE or not wrapping.begin_for_old(program, reading, signable, workplace, progress):
+                        raise
+                    words = [*words, *wrapping.words()]
+                    seals_path = seal_log(words, signable)
+                status = write_log(words, seals_path, signable)
             else:
                 signing = ongoing.Signing(program, state, session, known, workplace, progress)
                 status = signing.sign(words, signable, seal_log, write_log)

@@ -1,6 +1,7 @@
 """Standard input and output of a command that says nothing before it has succeeded."""
 from __future__ import annotations
 
+import os
 import sys
 import tempfile
 from types import TracebackType
@@ -9,15 +10,23 @@ from typing import BinaryIO, Iterator, Optional, Type, cast
 from .faults import Fault
 from .files import reason
 from .output import file_pieces, write_out
+from .workplace import notify
 
 # What is held in memory; more goes to a temporary file.
 HELD = 16 * 1024 * 1024
+
+
+def say_waiting() -> None:
+    """Reports that a run waits for what is typed, because it looks like one that hangs."""
+    if os.isatty(0):
+        notify("ssign-keys: standard input is a terminal: this waits for what you type, up to Ctrl-D at the front of a line")
 
 
 def input_lines() -> Iterator[bytes]:
     """The lines of standard input, each with its LF but perhaps the last."""
     if sys.stdin is None:
         raise Fault("standard input is closed")
+    say_waiting()
     try:
         with open(0, "rb", closefd=False) as stream:
             yield from stream
@@ -29,6 +38,7 @@ def short_lines(most: int) -> Iterator[bytes]:
     """The lines of standard input, of which a longer one comes in pieces of so many octets. Each comes once it is there."""
     if sys.stdin is None:
         raise Fault("standard input is closed")
+    say_waiting()
     try:
         with open(0, "rb", closefd=False) as stream:
             yield from iter(lambda: stream.readline(most), b"")

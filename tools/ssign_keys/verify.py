@@ -36,7 +36,7 @@ from .pinned import Search as KnownSearch
 from .text_verdict import TextVerdict
 from .programs import Refused, Run, add_limit_arguments, add_program_argument, find_program, log_words
 from .progress import Progress
-from .refusals import fault_of, warn_of_form
+from .refusals import fault_of, warn_of_damage, warn_of_empty, warn_of_form
 from .report import Reading, ReportVisitor, wrong
 from .reviewed import Details, Reviewed
 from .salvage import SALVAGE
@@ -156,6 +156,8 @@ class Verification:
             if is_detailed(arguments):
                 reviewed = reviewed._replace(details=self._details(verifier, reviewed, trust, listed))
             verifier.name_unused(trust)
+            if listed is None and not arguments.begin and not arguments.raw:
+                name_part(reviewed.survey)
             pieces = verifier.show(reviewed)
             if arguments.html is not None:
                 page_file.prepare(verifier.page_path)
@@ -178,6 +180,8 @@ class Verification:
         log = self._log = open_log(arguments.logs, named_form, workplace, progress, arguments.max_expanded)
         log.longest = longest(arguments)
         warn_of_form(log)
+        if listed is None and not arguments.counters and not arguments.begin:
+            warn_of_empty(log)
         if listed is not None:
             missing = add_counters(missing, listed.look(log), workplace)
             if arguments.from_manifest:
@@ -258,6 +262,9 @@ class Verifier:
             log.settle(survey.damage if survey.is_salvaged else None, survey.totals.messages, survey.totals.torn)
         except ValueError as fault:
             raise wrong(str(fault)) from fault
+        if log.damage:
+            self._progress.clear()
+            warn_of_damage(log)
         if survey.disputed:
             survey = self._survey_disputed(survey, trust)
         for sentence in [*self._known.sentences, *self._unlooked]:
@@ -468,6 +475,13 @@ class Verifier:
         except Refused:
             # whoever reads it as lines is refused too
             return False
+
+
+def name_part(survey: Survey) -> None:
+    """Reports a session whose first numbers aren't here, as where a log is one of several."""
+    if survey.later is not None:
+        notify(f"ssign-keys: the log may be a part of the session '{survey.later}', whose first numbers aren't in it: --from names the "
+               "counters with which the part before ends; without them, give all parts")
 
 
 def is_detailed(arguments: argparse.Namespace) -> bool:
