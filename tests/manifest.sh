@@ -189,8 +189,8 @@ harm() {
 clean="Clean. 3 entries, 4 logs; the last entry is $third"
 harm 'nothing' 0 "$clean" -- true
 holds 'nothing: no word on standard error' test ! -s err
-harm 'a log in a folder below' 0 "$clean" -- cp -r nights nights/below
-holds 'a log in a folder below is named' test "$(<err)" = "ssign-keys: warning: nights/below/aside.frames lies below the folder of the logs, and isn't looked at: check its folder by itself, or move it"
+harm 'a log in a folder below' 0 "$clean" -- bash -c 'mkdir nights/below && cp nights/night-1.frames nights/below'
+holds 'a log in a folder below is named' test "$(<err)" = "ssign-keys: warning: nights/below/night-1.frames lies below the folder of the logs, and isn't looked at: check its folder by itself, or move it"
 s2=$(stat -c %s nights/night-2.frames)
 harm 'a night that is gone' 1 "night-2.frames: missing, entry 2 names it, and it isn't here" -- rm nights/night-2.frames
 harm 'all nights gone' 1 "night-1.frames: missing, entry 1 names it, and it isn't here" "night-3.frames: missing, entry 3 names it, and it isn't here" -- bash -c 'rm nights/*'
