@@ -10,7 +10,6 @@ import contextlib
 import fcntl
 import os
 import re
-import time
 from typing import Dict, Iterator, Optional, Tuple
 
 from .blocks import Session
@@ -39,21 +38,27 @@ class KnownSessions:
         """`key` is the file of the private key. SSIGN_SESSIONS names another file; with /dev/null nothing is remembered."""
         self._path = os.path.realpath(os.environ.get(VARIABLE) or os.path.realpath(key) + SUFFIX)
         self._can_keep = self._path != os.devnull
+        # what begins under an RSID that is given
+        self._begun: Optional[Session] = None
 
-    def begin(self, arguments: argparse.Namespace) -> Optional[Session]:
-        """Puts the RSID into the words of a session that begins, if none is given. Refuses one that was used.
-
-        Gives the session, which is known once `take` is called. It is None if it is known already, or if ssign refuses its words.
-        """
-        session = session_of(arguments)
+    def begin(self, arguments: argparse.Namespace, least: int) -> None:
+        """Puts the RSID into the words of a session that begins, if none is given: at least so great. Refuses one that was used."""
         if arguments.rsid is None:
-            arguments.rsid = [str(self.reserve(arguments, int(time.time())))]
-            return None
+            arguments.rsid = [str(self._reserve(arguments, least))]
+            return
+        session = session_of(arguments)
         if session is not None:
-            self.refuse_used(session)
-        return session
+            self._refuse_used(session)
+            self._begun = session
 
-    def reserve(self, arguments: argparse.Namespace, least: int) -> int:
+    def take(self) -> None:
+        """Has the session that begins be known, before anything of it is signed, if it isn't known yet."""
+        session, self._begun = self._begun, None
+        if session is not None:
+            with self._locked():
+                self._write(self._refuse_used(session), session)
+
+    def _reserve(self, arguments: argparse.Namespace, least: int) -> int:
         """The RSID of a session that begins: at least so great, and greater than each before. From now on it is known."""
         session = session_of(arguments, least)
         if session is None:
@@ -67,22 +72,16 @@ class KnownSessions:
             self._write(known, session._replace(rsid=b"%d" % rsid))
         return rsid
 
-    def take(self, session: Session, is_again: bool = False) -> None:
-        """Has a session be known, before anything of it is signed. Refuses one that was used, unless it `is_again` the same."""
-        with self._locked():
-            known = self.refuse_used(session, is_again)
-            self._write(known, session)
-
     @property
     def name(self) -> str:
         """The file, as a sentence names it."""
         return shown_name(self._path)
 
-    def refuse_used(self, session: Session, is_again: bool = False) -> Dict[Names, int]:
+    def _refuse_used(self, session: Session) -> Dict[Names, int]:
         """Refuses a session that isn't after each that is known with its names. Gives what is known."""
         known = self._read()
         last = known.get(session[:3], -1)
-        if int(session.rsid) < last + (not is_again):
+        if int(session.rsid) <= last:
             raise Fault(f"--rsid {int(session.rsid)}: with this key a session of {spelled(session)} was begun with the RSID {last} "
                         f"({self.name}), and one that begins needs a greater one: leave --rsid out. To go on in one session, sign "
                         "with --state")
@@ -118,7 +117,8 @@ class KnownSessions:
         """Has the file hold this session too, unless it can't be kept."""
         if not self._can_keep:
             return
-        names = {**known, session[:3]: int(session.rsid)}
+        names = dict(known)
+        names[session.host, session.app, session.procid] = int(session.rsid)
         try:
             replace(self._path, b"".join(b"%s %d\n" % (b" ".join(it), names[it]) for it in sorted(names)), 0o600)
         except Fault as fault:

@@ -115,7 +115,7 @@ def begin(arguments: argparse.Namespace, state: SessionState, key: PublicKey, kn
     given = only(arguments.rsid)
     arguments.host = arguments.host or [machine_name()]
     if given is None:
-        arguments.rsid = [str(known.reserve(arguments, state.next_rsid()))]
+        known.begin(arguments, state.next_rsid())
     elif not is_number(given) or int(given) > MOST_RSID:
         raise Fault(f"--rsid {quoted(given)}: it has to be a number from {RANGES['rsid']}")
     elif int(given) < last or int(given) == last and not is_unused:
@@ -124,9 +124,8 @@ def begin(arguments: argparse.Namespace, state: SessionState, key: PublicKey, kn
                     f"greater one{more}")
     else:
         arguments.rsid = [str(int(given))] * len(arguments.rsid)
-        session = session_of(arguments)
-        if session is not None:
-            known.refuse_used(session, is_again=int(given) == last)
+        if ongoing is None or session_of(arguments) != ongoing.session:
+            known.begin(arguments, 0)
     fill(arguments, key)
     for option in KEPT:
         if not getattr(arguments, option):
@@ -171,8 +170,8 @@ class Signing:
 
     def _begin(self, words: List[str], are_lines: bool, seal: Seal, write: Write) -> None:
         """Has the certificate blocks signed, which stand in front of each log of the session. Its RSID is used up before."""
+        self._known.take()
         self._save(self._ongoing)
-        self._known.take(self._ongoing.session, is_again=True)
         with self._workplace.new_file("nothing") as file:
             nothing = Log(file, [Part("-", 0, 0)], are_lines, True)
             room = Room(self._ongoing.session, START, START)

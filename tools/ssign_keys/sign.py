@@ -4,6 +4,7 @@ from __future__ import annotations
 import argparse
 import contextlib
 import subprocess
+import time
 from typing import BinaryIO, Callable, Iterable, Iterator, List, Optional, Union
 
 from . import expand as expand_options
@@ -76,10 +77,10 @@ def run(arguments: argparse.Namespace) -> int:
             named_form = forms.named_form(arguments)
             key = read_private_key(arguments.key)
             known = KnownSessions(arguments.key)
-            session = begun = None
+            session = None
             if state is None:
                 arguments.host = arguments.host or [machine_name()]
-                begun = known.begin(arguments)
+                known.begin(arguments, int(time.time()))
                 fill(arguments, key.public)
             else:
                 session = ongoing.settle(arguments, state, key.public, known)
@@ -90,12 +91,8 @@ def run(arguments: argparse.Namespace) -> int:
             wrapping.count(program, reading, signable, workplace, progress)
             words = [*reading, *handed_on(arguments, list(OPTIONS)), *wrapping.words()]
 
-            def begin() -> None:
-                if begun is not None:
-                    known.take(begun)
-
             def seal_log(words: List[str], log: Log, check: Optional[Check] = None) -> str:
-                return seal(program, words, key, log, workplace, progress, check, begin)
+                return seal(program, words, key, log, workplace, progress, check, known.take)
 
             def write_log(words: List[str], seals_path: str, log: Log, out: Union[BinaryIO, int] = 1) -> int:
                 return write(program, words, seals_path, log, workplace, progress, out)
