@@ -27,6 +27,7 @@ from .programs import add_program_argument, find_program
 from .rotation_state import sync_folder
 from .sign import OPTIONS
 from .sizes import read_size
+from .streams import say_waiting
 from .words import shown_name
 
 # the options of a session, but for those that `live` says by itself
@@ -150,6 +151,7 @@ def run_locked(arguments: argparse.Namespace, sealer: Sealer, program: str, worl
     loop = kind(live, source, world, pace, arguments.omprog, turned, starter.next_session, stamps)
     try:
         if journal is None:
+            say_waiting()
             return loop.run()
         journal.start()
         status = loop.run()
