@@ -1,5 +1,5 @@
 -- What is printed about a code, and which code is asked about.
-use Rattle.std.specs.Prelude.{ℕ, Bool, true, false, ◌==◌, ◌&&◌, not, if◌then◌else◌, List, [], ◌∷◌, ◌++◌, Option, Some, None}
+use Rattle.std.specs.Prelude.{ℕ, Bool, true, false, ◌==◌, ◌&&◌, ◌||◌, not, if◌then◌else◌, List, [], ◌∷◌, ◌++◌, Option, Some, None}
 use Rattle.std.specs.Prelude.{codes, flat_map, option_map}
 use Rattle.std.specs.List.{find, list_any, slice_split}
 use Rattle.std.specs.Option.{option_or}
@@ -15,7 +15,7 @@ has_code code entry = str_eq_ignore_ascii_case entry.code.now code
 
 -- the entries of tables, in the order in which a code is looked for
 abbrev pub entries_of : Tables → List Explanation
-entries_of t = t.refusals.now ++ t.words.now ++ t.faults.now ++ t.unprinted.now
+entries_of t = t.refusals.now ++ t.lines.now ++ t.words.now ++ t.faults.now ++ t.unprinted.now
 
 -- what is printed of an entry: its text and a line feed
 abbrev pub told_text : Explanation → List ℕ
@@ -36,14 +36,15 @@ objects_in table entries = flat_map (object_in table) entries
 -- all entries of all tables, in the order in which a code is looked for
 abbrev pub objects_of : Tables → List ℕ
 objects_of t =
-    objects_in (codes "refusals") t.refusals.now ++ objects_in (codes "words") t.words.now
-    ++ objects_in (codes "faults") t.faults.now ++ objects_in (codes "unprinted") t.unprinted.now
+    objects_in (codes "refusals") t.refusals.now ++ objects_in (codes "words") t.lines.now
+    ++ objects_in (codes "words") t.words.now ++ objects_in (codes "faults") t.faults.now
+    ++ objects_in (codes "unprinted") t.unprinted.now
 
 -- the name of the first table that has an entry of the code
 abbrev pub table_of : Tables → List ℕ → List ℕ
 table_of t code =
     if list_any (has_code code) t.refusals.now then codes "refusals"
-    else if list_any (has_code code) t.words.now then codes "words"
+    else if list_any (has_code code) t.lines.now || list_any (has_code code) t.words.now then codes "words"
     else if list_any (has_code code) t.faults.now then codes "faults"
     else codes "unprinted"
 

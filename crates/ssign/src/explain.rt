@@ -18,6 +18,7 @@ pub fn explanation_of<'t>(tables: Tables<'t>, code: &str) -> Option<&'t Explanat
     tables
         .refusals
         .iter()
+        .chain(tables.lines.iter())
         .chain(tables.words.iter())
         .chain(tables.faults.iter())
         .chain(tables.unprinted.iter())
@@ -107,13 +108,13 @@ fn line_of(alloc: Global, entry: &Explanation) -> Result<Vec<u8>, AllocError>
     Ok(line)
 }
 
-/// The name of the first table that has this code: of the last one, if no table has it.
+/// The name of the first table that has this code: of the last one, if no table has it. Lines have that of words.
 fn table_of(tables: Tables<'_>, code: &str) -> &'static str
     ensures { result.now ≡ table_of tables.entry code.now }
 {
     if has_entry(tables.refusals, code) {
         "refusals"
-    } else if has_entry(tables.words, code) {
+    } else if has_entry(tables.lines, code) || has_entry(tables.words, code) {
         "words"
     } else if has_entry(tables.faults, code) {
         "faults"

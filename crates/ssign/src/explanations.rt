@@ -1,11 +1,13 @@
-//! What the codes and the words of the program's output mean, in four tables. `docs/guide.md` has those that the
-//! program prints, in the same order: refusals, words and faults.
+//! What the codes and the words of the program's output mean, in five tables. `docs/guide.md` has those that the
+//! program prints, in the same order: refusals, lines and words, and faults.
 mod faults;
+mod lines;
 mod refusals;
 mod unprinted;
 mod words;
 
 use faults::FAULTS;
+use lines::LINES;
 use refusals::REFUSALS;
 use unprinted::UNPRINTED;
 use words::WORDS;
@@ -24,7 +26,9 @@ pub struct Explanation {
 pub struct Tables<'t> {
     /// Of refusals.
     pub refusals: &'t [Explanation],
-    /// Of words of the output.
+    /// Of words of a verdict, and of lines of a report.
+    pub lines: &'t [Explanation],
+    /// Of other words of the output.
     pub words: &'t [Explanation],
     /// Of what is wrong with a message.
     pub faults: &'t [Explanation],
@@ -36,6 +40,7 @@ pub struct Tables<'t> {
 pub fn all_tables() -> Tables<'static> {
     Tables {
         refusals: &REFUSALS,
+        lines: &LINES,
         words: &WORDS,
         faults: &FAULTS,
         unprinted: &UNPRINTED,

@@ -22,6 +22,7 @@ pub fn objects_text(alloc: Global, tables: Tables<'_>) -> Result<Vec<u8>, AllocE
 {
     let mut text = Vec::new(alloc);
     push_objects(&mut text, "refusals", tables.refusals)?;
+    push_objects(&mut text, "words", tables.lines)?;
     push_objects(&mut text, "words", tables.words)?;
     push_objects(&mut text, "faults", tables.faults)?;
     push_objects(&mut text, "unprinted", tables.unprinted)?;

@@ -253,11 +253,13 @@ fn refuse_code<R: Eprint>(rt: &R, status: u8, tables: Tables<'_>, code: &str) ->
     let _ = eprint!(rt; "error: no explanation of {code:?}\n\nThe codes:");
     let Tables {
         refusals,
+        lines,
         words,
         faults,
         ..
     } = tables;
-    for entry in refusals.iter().chain(words.iter()).chain(faults.iter()) {
+    let of_output = lines.iter().chain(words.iter());
+    for entry in refusals.iter().chain(of_output).chain(faults.iter()) {
         let _ = eprint!(rt; " {}", entry.code);
     }
     let _ = eprintln!(rt; "\n\nFor more information, try '--help'.");
