@@ -478,8 +478,10 @@ class Verifier:
 
 
 def name_part(survey: Survey) -> None:
-    """Reports a session whose first numbers aren't here, as where a log is one of several."""
-    if survey.later is not None:
+    """Reports a session whose first numbers aren't here, as where a log is one of several, if nothing else explains it."""
+    totals = survey.totals
+    is_harmed = totals.damaged or totals.refused or totals.unlisted or totals.torn is not None
+    if survey.later is not None and not is_harmed:
         notify(f"ssign-keys: the log may be a part of the session '{survey.later}', whose first numbers aren't in it: --from names the "
                "counters with which the part before ends; without them, give all parts")
 
