@@ -19,6 +19,7 @@ from typing import Callable, Iterator, List, NamedTuple, Optional, Tuple
 
 from review_runs import frame, read_frames
 
+EMPTY = b"ssign-keys: warning: %s: the log is empty, so it shows nothing: only counters or a manifest show whether something is missing\n"
 NOTHING = "Nothing in this log is shown to be authentic. Whatever was signed may have been taken out."
 # claims of a verdict, none of which may stand in one on a log that was attacked
 CLAIMS = ("NOTHING WAS SIGNED", "nothing else", "each other stored message is a verified block", "All 10 ", "clean")
@@ -265,14 +266,17 @@ class Verify:
         self._tool = tool
 
     def run(self, number: int, attack: Attack, *options: str) -> Tuple[int, bytes, bytes]:
-        """The status, the output and the complaint."""
+        """The status, the output and the complaint, but for the line that names an empty log."""
         path = os.path.join(self._folder, f"attack-{number}")
         with open(path, "wb") as file:
             file.write(attack.log())
         words = [self._tool, "verify", "--key", os.path.join(self._folder, "keys", "public-key.pem"),
                  *(["--lines"] if attack.are_lines else []), *attack.options, *options, path]
         said = subprocess.run(words, stdin=subprocess.DEVNULL, capture_output=True, timeout=120, check=False)
-        return said.returncode, said.stdout, said.stderr
+        empty = EMPTY % os.fsencode(path) if not attack.log() else b""
+        if not said.stderr.startswith(empty):
+            return said.returncode, said.stdout, b"an empty log isn't named"
+        return said.returncode, said.stdout, said.stderr[len(empty):]
 
 
 def faults(attack: Attack, status: int, out: bytes, complaint: bytes) -> Iterator[str]:
