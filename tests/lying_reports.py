@@ -14,6 +14,7 @@ import sys
 from concurrent.futures import ThreadPoolExecutor
 from typing import Iterator, List, NamedTuple, Sequence, Tuple
 
+from hostile_verdicts import EMPTY
 from review_runs import frame, read_frames
 
 NOTHING = b"ssign-keys: Nothing in this log is shown to be authentic. Whatever was signed may have been taken out.\n"
@@ -118,11 +119,14 @@ class Bench:
         return Report(log, said.stdout.splitlines(), said.returncode)
 
     def run(self, log: str, program: str, lie: "dict[str, str]", *options: str) -> Tuple[int, bytes, bytes]:
-        """The status of verify with this program, its output and its complaint."""
+        """The status of verify with this program, its output and its complaint, but for the line that names an empty log."""
         words = [self._tool, "verify", "--key", self.path("keys/public-key.pem"), "--ssign", program, *options, self.path(log)]
         said = subprocess.run(words, stdin=subprocess.DEVNULL, capture_output=True, timeout=120, check=False,
                               env={**os.environ, **lie})
-        return said.returncode, said.stdout, said.stderr
+        empty = EMPTY % os.fsencode(self.path(log)) if log == "empty" else b""
+        if not said.stderr.startswith(empty):
+            return said.returncode, said.stdout, b"an empty log isn't named"
+        return said.returncode, said.stdout, said.stderr[len(empty):]
 
     def tell(self, number: int, lie: Lie, *options: str) -> Tuple[int, bytes, bytes]:
         """What verify makes of a lie."""
