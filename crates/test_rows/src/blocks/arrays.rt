@@ -1,7 +1,7 @@
 //! Hashes as an array, and HB from one.
 use ss_block::{Alg, Hash, array_hashes, put_array_text, put_hash_array};
 use ss_octets::NoMemory;
-use std::process::Abort;
+use std::alloc::Global;
 
 /// SHA-1 of `abc` (FIPS 180-2, appendix A.1).
 const SHA1_ABC: [u8; 20] = [
@@ -33,46 +33,83 @@ const SHA1_TEXT: &[u8] = b"hJg+RBw70m66rkqh+VEp5eVGcPE= qZk+NkcGgWq6PiVxeFDCbJzQ
 const SHA256_TEXT: &[u8] =
     b"ungWv48Bz+pBQUDeXa4iI7ADYaOWF3qctBD/YfIAFa0= JI1qYdIGOLjlwCaTDD5gOaM85Flk/yFn9uzt1BnbBsE=";
 
-/// After six octets stand the octets of these hashes, and six more. They are read back, and HB of them is put after
-/// what stands there.
-fn sees_array(
-    rt: &(impl Abort + AllocGlobal),
+/// Whether these hashes are read at the front of the octets.
+fn are_read(alloc: Global, alg: Alg, octets: &[u8], hashes: &[Hash]) -> Result<bool, NoMemory> {
+    if hashes.len() * alg.hash_octets() > octets.len() {
+        return Ok(false);
+    }
+    Ok(array_hashes(alloc, alg, octets, hashes.len())?.as_slice() == hashes)
+}
+
+/// Whether HB of as many hashes at the front of the octets is put after what stands there.
+fn are_put(
+    alloc: Global,
+    alg: Alg,
+    octets: &[u8],
+    hashes: &[Hash],
+    text: &[u8],
+) -> Result<bool, NoMemory> {
+    if hashes.len() * alg.hash_octets() > octets.len() {
+        return Ok(false);
+    }
+    let mut spelled = Vec::from_slice(alloc, b"HB=")?;
+    put_array_text(&mut spelled, alg, octets, hashes.len())?;
+    Ok(spelled.as_slice().get(3..) == Some(text))
+}
+
+/// Whether after six octets stand the octets of these hashes, and six more, and HB of them is this text.
+fn is_array(
+    alloc: Global,
     alg: Alg,
     array: &[u8],
     hashes: &[Hash],
     text: &[u8],
-) -> Result<(), NoMemory> {
-    assert_eq!(rt; array.len(), hashes.len() * alg.hash_octets() + 12);
-    let octets = &array[6..];
-    assert!(rt; hashes.len() * alg.hash_octets() <= octets.len());
-    let read = array_hashes(rt.alloc(), alg, octets, hashes.len())?;
-    assert_eq!(rt; read.as_slice(), hashes);
-    let mut spelled = Vec::from_slice(rt.alloc(), b"HB=")?;
-    put_array_text(&mut spelled, alg, octets, hashes.len())?;
-    assert_eq!(rt; spelled.as_slice().get(3..), Some(text));
-    Ok(())
+) -> Result<bool, NoMemory> {
+    let Some(octets) = array.get(6..) else {
+        return Ok(false);
+    };
+    Ok(
+        octets.len() == hashes.len() * alg.hash_octets() + 6
+            && are_read(alloc, alg, octets, hashes)?
+            && are_put(alloc, alg, octets, hashes, text)?,
+    )
+}
+
+fn is_sha1_array(alloc: Global) -> Result<bool, NoMemory> {
+    let hashes = [Hash::Sha1(SHA1_LONG), Hash::Sha1(SHA1_ABC)];
+    let mut array = Vec::from_slice(alloc, b"before")?;
+    put_hash_array(&mut array, Alg::Sha1, &hashes)?;
+    array.extend_from_slice(b"behind")?;
+    is_array(alloc, Alg::Sha1, array.as_slice(), &hashes, SHA1_TEXT)
+}
+
+fn is_sha256_array(alloc: Global) -> Result<bool, NoMemory> {
+    let hashes = [Hash::Sha256(SHA256_ABC), Hash::Sha256(SHA256_LONG)];
+    let mut array = Vec::from_slice(alloc, b"before")?;
+    put_hash_array(&mut array, Alg::Sha256, &hashes)?;
+    array.extend_from_slice(b"behind")?;
+    is_array(alloc, Alg::Sha256, array.as_slice(), &hashes, SHA256_TEXT)
 }
 
 #[test]
 fn arrays_of_sha1(rt: HostRuntime) -> Result<(), NoMemory> {
-    let hashes = [Hash::Sha1(SHA1_LONG), Hash::Sha1(SHA1_ABC)];
-    let mut array = Vec::from_slice(rt.alloc(), b"before")?;
-    put_hash_array(&mut array, Alg::Sha1, &hashes)?;
-    array.extend_from_slice(b"behind")?;
-    sees_array(&rt, Alg::Sha1, array.as_slice(), &hashes, SHA1_TEXT)
+    assert!(rt; is_sha1_array(rt.alloc())?);
+    Ok(())
 }
 
 #[test]
 fn arrays_of_sha256(rt: HostRuntime) -> Result<(), NoMemory> {
-    let hashes = [Hash::Sha256(SHA256_ABC), Hash::Sha256(SHA256_LONG)];
-    let mut array = Vec::from_slice(rt.alloc(), b"before")?;
-    put_hash_array(&mut array, Alg::Sha256, &hashes)?;
-    array.extend_from_slice(b"behind")?;
-    sees_array(&rt, Alg::Sha256, array.as_slice(), &hashes, SHA256_TEXT)
+    assert!(rt; is_sha256_array(rt.alloc())?);
+    Ok(())
 }
 
 #[test]
 fn array_of_none(rt: HostRuntime) -> Result<(), NoMemory> {
-    sees_array(&rt, Alg::Sha1, b"beforebehind", &[], b"")?;
-    sees_array(&rt, Alg::Sha256, b"beforebehind", &[], b"")
+    for alg in [Alg::Sha1, Alg::Sha256] {
+        assert!(rt;
+            is_array(rt.alloc(), alg, b"beforebehind", &[], b"")?,
+            "{alg:?}"
+        );
+    }
+    Ok(())
 }

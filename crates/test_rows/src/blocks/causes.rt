@@ -87,20 +87,31 @@ const WRONGS: [Wrong; 6] = [
     Wrong::OtherLetters,
 ];
 
+/// A name in lower case.
+fn put_small(text: &mut Vec<u8>, name: &[u8]) -> Result<(), AllocError> {
+    for octet in name {
+        text.push(octet.to_ascii_lowercase())?;
+    }
+    Ok(())
+}
+
+/// Another name.
+fn put_name(text: &mut Vec<u8>, wrong: Wrong, name: &[u8]) -> Result<(), AllocError> {
+    match wrong {
+        Wrong::ShorterName => text.extend_from_slice(name.get(1..).unwrap_or(b"")),
+        Wrong::OtherLetters => put_small(text, name),
+        _ => {
+            text.extend_from_slice(name)?;
+            Ok(text.push(b'2')?)
+        }
+    }
+}
+
 /// A parameter under another name.
 fn put_renamed(text: &mut Vec<u8>, wrong: Wrong, parameter: Named) -> Result<(), AllocError> {
     let (name, value) = parameter;
     text.push(b' ')?;
-    for (i, octet) in name.iter().enumerate() {
-        match wrong {
-            Wrong::ShorterName if i == 0 => {}
-            Wrong::OtherLetters => text.push(octet.to_ascii_lowercase())?,
-            _ => text.push(*octet)?,
-        }
-    }
-    if matches!(wrong, Wrong::LongerName) {
-        text.push(b'2')?;
-    }
+    put_name(text, wrong, name)?;
     text.extend_from_slice(b"=\"")?;
     text.extend_from_slice(value)?;
     Ok(text.push(b'"')?)

@@ -1,156 +1,90 @@
 //! Fragments that agree and disagree, rising and falling, and far too many of them.
-use Then::{Disputed, Incomplete, Whole};
 use ss_block::Joined::{Agreed, Disagrees};
 use ss_block::{JoinState, Joined, Joiner};
 use ss_octets::NoMemory;
 use std::alloc::Global;
 use std::test::Fail;
+use test_devices::Cells;
 
-/// A fragment by TPBL, INDEX and FRAG.
-#[derive(Clone, Copy)]
-struct At(u32, u32, &'static [u8]);
-
-/// The state of a joiner, with its payload where it is whole.
-#[derive(Clone, Copy)]
-enum Then {
-    Incomplete,
-    Whole(&'static [u8]),
-    Disputed,
-}
-
-/// A fragment, what a joiner answers to it, and its state then.
-type Step = (At, Joined, Then);
-
-/// The worked example of a payload in two fragments, out of order, and another total.
-const WORKED: [Step; 3] = [
-    (At(27, 18, b"39Z K S0VZ"), Agreed, Incomplete),
-    (
-        At(27, 1, b"2009-05-03T14:00:39Z"),
-        Agreed,
-        Whole(b"2009-05-03T14:00:39Z K S0VZ"),
-    ),
-    (At(28, 1, b"2"), Disagrees, Disputed),
-];
-
-/// The longest payload there is, of which four octets come.
-const SPARSE: [Step; 4] = [
-    (At(99_999_999, 99_999_999, b"x"), Agreed, Incomplete),
-    (At(99_999_999, 1, b"ab"), Agreed, Incomplete),
-    (At(99_999_999, 2, b"bc"), Agreed, Incomplete),
-    (At(99_999_999, 3, b"d"), Disagrees, Disputed),
-];
-
-/// Fragments that overlap, repeat and lie within others, and agree.
-const OVERLAPPING: [Step; 8] = [
-    (At(10, 3, b"cdef"), Agreed, Incomplete),
-    (At(10, 1, b"abcd"), Agreed, Incomplete),
-    (At(10, 3, b"cdef"), Agreed, Incomplete),
-    (At(10, 5, b"efgh"), Agreed, Incomplete),
-    (At(10, 10, b"j"), Agreed, Incomplete),
-    (At(10, 9, b"i"), Agreed, Whole(b"abcdefghij")),
-    (At(10, 1, b"abcdefghij"), Agreed, Whole(b"abcdefghij")),
-    (At(10, 4, b"d"), Agreed, Whole(b"abcdefghij")),
-];
-
-/// An octet in the middle that differs: from then on each fragment over it disagrees, whichever octet it has.
-const ONE_OCTET_APART: [Step; 8] = [
-    (At(10, 1, b"abcdefghij"), Agreed, Whole(b"abcdefghij")),
-    (At(10, 3, b"cdXfg"), Disagrees, Disputed),
-    (At(10, 3, b"cd"), Agreed, Disputed),
-    (At(10, 5, b"e"), Disagrees, Disputed),
-    (At(10, 5, b"X"), Disagrees, Disputed),
-    (At(10, 5, b"Y"), Disagrees, Disputed),
-    (At(10, 6, b"fghij"), Agreed, Disputed),
-    (At(10, 1, b"abcdefghij"), Disagrees, Disputed),
-];
-
-/// The first octet differs, and the last one.
-const ENDS_APART: [Step; 5] = [
-    (At(6, 2, b"bcde"), Agreed, Incomplete),
-    (At(6, 1, b"aX"), Disagrees, Disputed),
-    (At(6, 5, b"Yf"), Disagrees, Disputed),
-    (At(6, 3, b"cd"), Agreed, Disputed),
-    (At(6, 1, b"a"), Agreed, Disputed),
-];
-
-/// Another total comes last.
-const LATER_TOTAL: [Step; 4] = [
-    (At(4, 1, b"abcd"), Agreed, Whole(b"abcd")),
-    (At(3, 1, b"abc"), Disagrees, Disputed),
-    (At(4, 1, b"abcd"), Disagrees, Disputed),
-    (At(3, 1, b"abc"), Disagrees, Disputed),
-];
-
-/// Another total comes first, and the payload is never whole.
-const EARLIER_TOTAL: [Step; 4] = [
-    (At(9, 1, b"a"), Agreed, Incomplete),
-    (At(4, 1, b"ab"), Disagrees, Disputed),
-    (At(4, 3, b"cd"), Disagrees, Disputed),
-    (At(9, 5, b"efghi"), Disagrees, Disputed),
-];
-
-/// The shortest payload.
-const SHORTEST: [Step; 4] = [
-    (At(1, 1, b"a"), Agreed, Whole(b"a")),
-    (At(1, 1, b"a"), Agreed, Whole(b"a")),
-    (At(1, 1, b"b"), Disagrees, Disputed),
-    (At(1, 1, b"a"), Disagrees, Disputed),
-];
-
-/// Fragments over many multiples of 16, the last of which fills the gap before the first.
-const ACROSS: [Step; 7] = [
-    (
-        At(70, 17, b"qrstuvwxyzABCDEFGHIJKLMNOPQRSTUVWXYZ0123456789"),
-        Agreed,
-        Incomplete,
-    ),
-    (At(70, 60, b"789abcdefgh"), Agreed, Incomplete),
-    (At(70, 1, b"abcdefghijklmno"), Agreed, Incomplete),
-    (
-        At(70, 16, b"p"),
-        Agreed,
-        Whole(b"abcdefghijklmnopqrstuvwxyzABCDEFGHIJKLMNOPQRSTUVWXYZ0123456789abcdefgh"),
-    ),
-    (
-        At(70, 15, b"opqr"),
-        Agreed,
-        Whole(b"abcdefghijklmnopqrstuvwxyzABCDEFGHIJKLMNOPQRSTUVWXYZ0123456789abcdefgh"),
-    ),
-    (
-        At(70, 31, b"EFGH"),
-        Agreed,
-        Whole(b"abcdefghijklmnopqrstuvwxyzABCDEFGHIJKLMNOPQRSTUVWXYZ0123456789abcdefgh"),
-    ),
-    (At(70, 31, b"EFgH"), Disagrees, Disputed),
-];
-
-/// The last index has no octet until the last fragment comes.
-const LAST_GAP: [Step; 3] = [
-    (At(3, 1, b"ab"), Agreed, Incomplete),
-    (At(3, 2, b"b"), Agreed, Incomplete),
-    (At(3, 3, b"c"), Agreed, Whole(b"abc")),
-];
-
-/// The first index has no octet until the last fragment comes.
-const FIRST_GAP: [Step; 3] = [
-    (At(3, 2, b"bc"), Agreed, Incomplete),
-    (At(3, 2, b"b"), Agreed, Incomplete),
-    (At(3, 1, b"a"), Agreed, Whole(b"abc")),
-];
-
-/// Fragments that a joiner takes in turn.
-const SEQUENCES: [(&str, &[Step]); 11] = [
-    ("the worked example", &WORKED),
-    ("the longest payload", &SPARSE),
-    ("overlapping", &OVERLAPPING),
-    ("one octet apart", &ONE_OCTET_APART),
-    ("both ends apart", &ENDS_APART),
-    ("another total last", &LATER_TOTAL),
-    ("another total first", &EARLIER_TOTAL),
-    ("the shortest payload", &SHORTEST),
-    ("over many multiples of 16", &ACROSS),
-    ("the last index last", &LAST_GAP),
-    ("the first index last", &FIRST_GAP),
+/// Fragments that a joiner takes in turn, with `;` between two: TPBL, INDEX and FRAG, what the joiner answers, and its
+/// state then, with its payload if that is whole.
+#[rattlefmt::skip]
+const SEQUENCES: [(&str, &[u8]); 11] = [
+    // The worked example of a payload in two fragments, out of order, and another total.
+    ("the worked example",
+        b"27|18|39Z K S0VZ|agrees|incomplete;\
+          27|1|2009-05-03T14:00:39Z|agrees|whole|2009-05-03T14:00:39Z K S0VZ;\
+          28|1|2|disagrees|disputed"),
+    // The longest payload there is, of which four octets come.
+    ("the longest payload",
+        b"99999999|99999999|x|agrees|incomplete;\
+          99999999|1|ab|agrees|incomplete;\
+          99999999|2|bc|agrees|incomplete;\
+          99999999|3|d|disagrees|disputed"),
+    // Fragments that overlap, repeat and lie within others, and agree.
+    ("overlapping",
+        b"10|3|cdef|agrees|incomplete;\
+          10|1|abcd|agrees|incomplete;\
+          10|3|cdef|agrees|incomplete;\
+          10|5|efgh|agrees|incomplete;\
+          10|10|j|agrees|incomplete;\
+          10|9|i|agrees|whole|abcdefghij;\
+          10|1|abcdefghij|agrees|whole|abcdefghij;\
+          10|4|d|agrees|whole|abcdefghij"),
+    // An octet in the middle that differs: from then on each fragment over it disagrees, whichever octet it has.
+    ("one octet apart",
+        b"10|1|abcdefghij|agrees|whole|abcdefghij;\
+          10|3|cdXfg|disagrees|disputed;\
+          10|3|cd|agrees|disputed;\
+          10|5|e|disagrees|disputed;\
+          10|5|X|disagrees|disputed;\
+          10|5|Y|disagrees|disputed;\
+          10|6|fghij|agrees|disputed;\
+          10|1|abcdefghij|disagrees|disputed"),
+    // The first octet differs, and the last one.
+    ("both ends apart",
+        b"6|2|bcde|agrees|incomplete;\
+          6|1|aX|disagrees|disputed;\
+          6|5|Yf|disagrees|disputed;\
+          6|3|cd|agrees|disputed;\
+          6|1|a|agrees|disputed"),
+    // Another total comes last.
+    ("another total last",
+        b"4|1|abcd|agrees|whole|abcd;\
+          3|1|abc|disagrees|disputed;\
+          4|1|abcd|disagrees|disputed;\
+          3|1|abc|disagrees|disputed"),
+    // Another total comes first, and the payload is never whole.
+    ("another total first",
+        b"9|1|a|agrees|incomplete;\
+          4|1|ab|disagrees|disputed;\
+          4|3|cd|disagrees|disputed;\
+          9|5|efghi|disagrees|disputed"),
+    // The shortest payload.
+    ("the shortest payload",
+        b"1|1|a|agrees|whole|a;\
+          1|1|a|agrees|whole|a;\
+          1|1|b|disagrees|disputed;\
+          1|1|a|disagrees|disputed"),
+    // Fragments over many multiples of 16, the last of which fills the gap before the first.
+    ("over many multiples of 16",
+        b"70|17|qrstuvwxyzABCDEFGHIJKLMNOPQRSTUVWXYZ0123456789|agrees|incomplete;\
+          70|60|789abcdefgh|agrees|incomplete;\
+          70|1|abcdefghijklmno|agrees|incomplete;\
+          70|16|p|agrees|whole|abcdefghijklmnopqrstuvwxyzABCDEFGHIJKLMNOPQRSTUVWXYZ0123456789abcdefgh;\
+          70|15|opqr|agrees|whole|abcdefghijklmnopqrstuvwxyzABCDEFGHIJKLMNOPQRSTUVWXYZ0123456789abcdefgh;\
+          70|31|EFGH|agrees|whole|abcdefghijklmnopqrstuvwxyzABCDEFGHIJKLMNOPQRSTUVWXYZ0123456789abcdefgh;\
+          70|31|EFgH|disagrees|disputed"),
+    // The last index has no octet until the last fragment comes.
+    ("the last index last",
+        b"3|1|ab|agrees|incomplete;\
+          3|2|b|agrees|incomplete;\
+          3|3|c|agrees|whole|abc"),
+    // The first index has no octet until the last fragment comes.
+    ("the first index last",
+        b"3|2|bc|agrees|incomplete;\
+          3|2|b|agrees|incomplete;\
+          3|1|a|agrees|whole|abc"),
 ];
 
 /// Adds a fragment, or nothing where it isn't in the ranges of RFC 5848, section 5.3.2.
@@ -186,33 +120,61 @@ fn add_again(
 
 /// Whether the joiner has this state, and its payload, which is asked for once more where memory ran out, is that of
 /// it.
-fn is_then(joiner: &Joiner, then: Then) -> Result<bool, NoMemory> {
+fn is_then(joiner: &Joiner, then: Cells<'_>) -> Result<bool, NoMemory> {
     let payload = match joiner.payload() {
         Ok(payload) => payload,
         Err(_) => joiner.payload()?,
     };
-    Ok(match (then, payload, joiner.state()) {
-        (Whole(text), Some(payload), JoinState::Whole) => payload.as_slice() == text,
-        (Incomplete, None, JoinState::Incomplete) => true,
-        (Disputed, None, JoinState::Disputed) => true,
+    let mut cells = then;
+    let state = cells.octets();
+    Ok(match (payload, joiner.state()) {
+        (Some(payload), JoinState::Whole) => {
+            state == b"whole".as_slice() && payload.as_slice() == cells.octets()
+        }
+        (None, JoinState::Incomplete) => state == b"incomplete".as_slice(),
+        (None, JoinState::Disputed) => state == b"disputed".as_slice(),
         _ => false,
     })
 }
 
+fn is_incomplete(joiner: &Joiner) -> Result<bool, NoMemory> {
+    is_then(joiner, Cells::new(b"incomplete"))
+}
+
 fn is_incomplete_at_first(alloc: Global) -> Result<bool, NoMemory> {
-    is_then(&Joiner::new(alloc), Incomplete)
+    is_incomplete(&Joiner::new(alloc))
+}
+
+/// The number of a cell; none if it has none of 32 bits.
+fn number(cells: &mut Cells<'_>) -> Option<u32> {
+    u32::try_from(cells.number()?).ok()
+}
+
+/// Adds the fragment of the next three cells.
+fn answer_to(joiner: &mut Joiner, cells: &mut Cells<'_>) -> Option<Result<Joined, NoMemory>> {
+    let total = number(cells)?;
+    let index = number(cells)?;
+    add_again(joiner, total, index, cells.octets())
+}
+
+/// Whether a joiner bears out a step.
+fn is_step(joiner: &mut Joiner, step: &[u8]) -> Result<bool, NoMemory> {
+    let mut cells = Cells::new(step);
+    let wanted = match answer_to(joiner, &mut cells) {
+        Some(Ok(Agreed)) => b"agrees".as_slice(),
+        Some(Ok(Disagrees)) => b"disagrees",
+        Some(Err(_)) => return Err(NoMemory),
+        None => return Ok(false),
+    };
+    Ok(cells.octets() == wanted && is_then(joiner, cells)?)
 }
 
 /// The first step, counted from 0, that a joiner which takes them all in turn doesn't bear out.
-fn first_wrong(alloc: Global, steps: &[Step]) -> Result<Option<usize>, NoMemory> {
+fn first_wrong(alloc: Global, steps: &[u8]) -> Result<Option<usize>, NoMemory> {
     let mut joiner = Joiner::new(alloc);
-    for (step, (At(total, index, fragment), joined, then)) in steps.iter().enumerate() {
-        let answer = match add_again(&mut joiner, *total, *index, fragment) {
-            Some(answer) => answer?,
-            None => return Ok(Some(step)),
-        };
-        if answer != *joined || !is_then(&joiner, *then)? {
-            return Ok(Some(step));
+    for (number, step) in steps.split(|octet| *octet == b';').enumerate() {
+        if !is_step(&mut joiner, step)? {
+            return Ok(Some(number));
         }
     }
     Ok(None)
@@ -223,7 +185,8 @@ fn first_wrong(alloc: Global, steps: &[Step]) -> Result<Option<usize>, NoMemory>
 #[test]
 fn sequences(rt: HostRuntime) -> Result<(), Fail> {
     for (name, steps) in &SEQUENCES {
-        assert_eq!(rt; first_wrong(rt.alloc(), steps)?, None, "{name}");
+        let wrong = first_wrong(rt.alloc(), steps)?;
+        assert!(rt; wrong.is_none(), "{name}: step {wrong:?}");
     }
     assert!(rt; is_incomplete_at_first(rt.alloc())?);
     Ok(())
@@ -290,7 +253,7 @@ fn are_many_incomplete(alloc: Global) -> Result<bool, NoMemory> {
         return Ok(false);
     };
     for joiner in &joiners {
-        if !is_then(joiner, Incomplete)? {
+        if !is_incomplete(joiner)? {
             return Ok(false);
         }
     }
@@ -322,7 +285,7 @@ fn wrong_odd(alloc: Global) -> Result<Option<u32>, NoMemory> {
             return Ok(Some(index));
         }
     }
-    Ok(if is_then(&joiner, Incomplete)? {
+    Ok(if is_incomplete(&joiner)? {
         None
     } else {
         Some(0)

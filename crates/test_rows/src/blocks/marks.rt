@@ -1,7 +1,6 @@
 //! Texts in which the octets `[ssign` stand, and others.
 use ss_block::may_hold_block;
-use std::alloc::Global;
-use std::test::Fail;
+use std::alloc::{AllocError, Global};
 
 /// Whether they stand in each of these texts, and the texts, with `|` between two.
 const TEXTS: [(bool, &[u8]); 2] = [
@@ -20,13 +19,12 @@ const TEXTS: [(bool, &[u8]); 2] = [
 ];
 
 #[test]
-fn marks(rt: HostRuntime) -> Result<(), Fail> {
+fn marks(rt: HostRuntime) {
     for (holds, texts) in &TEXTS {
         for text in texts.split(|octet| *octet == b'|') {
-            assert_eq!(rt; may_hold_block(text), *holds, "for {text:?}");
+            assert!(rt; may_hold_block(text) == *holds, "for {text:?}");
         }
     }
-    Ok(())
 }
 
 /// Octets before and after, so many of them that the search can't look at all at once.
@@ -45,33 +43,36 @@ const ROUNDS: [(usize, usize); 12] = [
     (65_533, 0),
 ];
 
-/// The octets after so many of one octet, and before so many of it.
-fn surrounded(
+/// Puts the octet so many times.
+fn put_filler(text: &mut Vec<u8>, filler: u8, count: usize) -> Result<(), AllocError> {
+    for _ in 0..count {
+        text.push(filler)?;
+    }
+    Ok(())
+}
+
+/// Whether a block is taken to be possible where these octets stand after so many of one octet, and before so many of
+/// it.
+fn may_hold(
     alloc: Global,
     octets: &[u8],
     filler: u8,
     round: (usize, usize),
-) -> Result<Vec<u8>, Fail> {
+) -> Result<bool, AllocError> {
     let mut text = Vec::new(alloc);
-    for _ in 0..round.0 {
-        text.push(filler)?;
-    }
+    put_filler(&mut text, filler, round.0)?;
     text.extend_from_slice(octets)?;
-    for _ in 0..round.1 {
-        text.push(filler)?;
-    }
-    Ok(text)
+    put_filler(&mut text, filler, round.1)?;
+    Ok(may_hold_block(&text))
 }
 
 #[test]
-fn marks_in_long_texts(rt: HostRuntime) -> Result<(), Fail> {
-    let alloc = rt.alloc();
+fn marks_in_long_texts(rt: HostRuntime) -> Result<(), AllocError> {
     for round in ROUNDS {
         for filler in [b'x', b'[', b's'] {
-            let whole = surrounded(alloc, b"[ssign", filler, round)?;
-            assert!(rt; may_hold_block(&whole), "{round:?} of {filler}");
-            let cut = surrounded(alloc, b"[ssig", filler, round)?;
-            assert!(rt; !may_hold_block(&cut), "{round:?} of {filler}");
+            let whole = may_hold(rt.alloc(), b"[ssign", filler, round)?;
+            let cut = may_hold(rt.alloc(), b"[ssig", filler, round)?;
+            assert!(rt; whole && !cut, "{round:?} of {filler}");
         }
     }
     Ok(())

@@ -2,70 +2,63 @@
 use ss_block::{Head, Session};
 use ss_message::Field;
 use ss_octets::{Bytes, NoMemory};
-use std::alloc::Global;
-use std::process::Abort;
-use std::test::Fail;
+use std::alloc::{AllocError, Global};
+use std::cmp::Ordering;
+use test_devices::Cells;
 
-/// Sessions that rise: HOSTNAME, APP-NAME and PROCID, each absent where it is `-`, and RSID.
-const RISING: [(&[u8], &[u8], &[u8], u64); 8] = [
-    (b"!", b"a", b"-", 9),
-    (b"-", b"a", b"-", 5),
-    (b"a", b"-", b"-", 1),
-    (b"a", b"-", b"-", 2),
-    (b"a", b"-", b"1", 0),
-    (b"a", b"b", b"-", 0),
-    (b"aa", b"-", b"-", 0),
-    (b"b", b"-", b"-", 0),
-];
+/// Sessions that rise, with `;` between two: HOSTNAME, APP-NAME and PROCID, each absent where it is `-`, and RSID.
+const RISING: &[u8] = b"!|a|-|9;-|a|-|5;a|-|-|1;a|-|-|2;a|-|1|0;a|b|-|0;aa|-|-|0;b|-|-|0";
 
-fn field(alloc: Global, octets: &[u8]) -> Result<Field, Fail> {
+fn field(alloc: Global, octets: &[u8]) -> Result<Field, AllocError> {
     if octets == b"-".as_slice() {
         return Ok(Field::Nil);
     }
     Ok(Field::Text(Bytes::from_vec(Vec::from_slice(alloc, octets)?)))
 }
 
-fn head(alloc: Global, host: &[u8], app: &[u8], procid: &[u8]) -> Result<Option<Head>, Fail> {
+/// The head of the next three cells.
+fn head(alloc: Global, cells: &mut Cells<'_>) -> Result<Option<Head>, AllocError> {
     Ok(Head::new(
         110,
-        field(alloc, host)?,
-        field(alloc, app)?,
-        field(alloc, procid)?,
+        field(alloc, cells.octets())?,
+        field(alloc, cells.octets())?,
+        field(alloc, cells.octets())?,
         Field::Nil,
     ))
 }
 
-fn session(
-    alloc: Global,
-    host: &[u8],
-    app: &[u8],
-    procid: &[u8],
-    rsid: u64,
-) -> Result<Session, Fail> {
-    let head = head(alloc, host, app, procid)?.ok_or("a head")?;
-    Ok(Session::of_head(alloc, &head, rsid)?)
-}
-
-/// The session comes after those that rise up to its place, and before the others.
-fn sees_order(rt: &(impl Abort + AllocGlobal), session_a: &Session, i: usize) -> Result<(), Fail> {
-    for (j, b) in RISING.iter().enumerate() {
-        let session_b = session(rt.alloc(), b.0, b.1, b.2, b.3)?;
-        assert_eq!(rt; session_a.cmp(&session_b), i.cmp(&j));
+/// The session of a row; none where there is none.
+fn session(alloc: Global, row: &[u8]) -> Result<Option<Session>, NoMemory> {
+    let mut cells = Cells::new(row);
+    match (head(alloc, &mut cells)?, cells.number()) {
+        (Some(head), Some(rsid)) => Ok(Some(Session::of_head(alloc, &head, rsid)?)),
+        _ => Ok(None),
     }
-    Ok(())
 }
 
-fn sees_clone(rt: &(impl Abort + AllocGlobal), session: &Session) -> Result<(), NoMemory> {
-    assert!(rt; session.try_clone(rt.alloc())? == *session);
-    Ok(())
+/// Whether two sessions have this order.
+fn is_order(alloc: Global, a: &[u8], b: &[u8], order: Ordering) -> Result<bool, NoMemory> {
+    match (session(alloc, a)?, session(alloc, b)?) {
+        (Some(a), Some(b)) => Ok(a.cmp(&b) == order),
+        _ => Ok(false),
+    }
+}
+
+/// Whether a session equals its clone.
+fn is_cloned(alloc: Global, row: &[u8]) -> Result<bool, NoMemory> {
+    match session(alloc, row)? {
+        Some(session) => Ok(session.try_clone(alloc)? == session),
+        None => Ok(false),
+    }
 }
 
 #[test]
-fn sessions_rise(rt: HostRuntime) -> Result<(), Fail> {
-    for (i, a) in RISING.iter().enumerate() {
-        let session = session(rt.alloc(), a.0, a.1, a.2, a.3)?;
-        sees_clone(&rt, &session)?;
-        sees_order(&rt, &session, i)?;
+fn sessions_rise(rt: HostRuntime) -> Result<(), NoMemory> {
+    for (i, a) in RISING.split(|octet| *octet == b';').enumerate() {
+        assert!(rt; is_cloned(rt.alloc(), a)?, "{a:?}");
+        for (j, b) in RISING.split(|octet| *octet == b';').enumerate() {
+            assert!(rt; is_order(rt.alloc(), a, b, i.cmp(&j))?, "{a:?}, {b:?}");
+        }
     }
     Ok(())
 }

@@ -1,12 +1,10 @@
 //! What texts are: blocks with all their fields, messages that are none, and texts that are no message.
-use crate::blocks::elements::{
-    Block, CERTIFICATE, Edit, HEAD, Kind, Named, SIGNATURE, kind_of, put_element,
-};
+use crate::blocks::elements::{Block, Edit, Kind, kind_of};
 use crate::blocks::fields::{A, A2, B, CertificateFields, Fields, SignatureFields};
+use crate::blocks::signing::AMONG_OTHERS;
 use ss_block::{Alg, Group, Hash, Reading, Spoil, classify};
 use ss_message::Part;
 use std::alloc::{AllocError, Global};
-use std::process::Abort;
 use std::test::Fail;
 
 /// A block, how it is edited, and its fields.
@@ -75,12 +73,20 @@ const WHOLE: CertificateFields = CertificateFields {
     signature: b"\0\0\0",
 };
 
+/// Whether it is a block with these fields.
+fn has_fields(reading: &Reading, fields: &Fields) -> bool {
+    match (reading, fields) {
+        (Reading::Signature(block), Fields::Signature(fields)) => fields.are_of(block),
+        (Reading::Certificate(block), Fields::Certificate(fields)) => fields.are_of(block),
+        _ => false,
+    }
+}
+
 /// Whether the text is a block with these fields.
 fn is_block(alloc: Global, text: &[u8], fields: &Fields) -> bool {
-    match (classify(alloc, text), fields) {
-        (Ok(Reading::Signature(block)), Fields::Signature(fields)) => fields.are_of(&block),
-        (Ok(Reading::Certificate(block)), Fields::Certificate(fields)) => fields.are_of(&block),
-        _ => false,
+    match classify(alloc, text) {
+        Ok(reading) => has_fields(&reading, fields),
+        Err(_) => false,
     }
 }
 
@@ -99,9 +105,9 @@ fn is_read(alloc: Global, row: &Row) -> Result<bool, AllocError> {
     Ok(is_block(alloc, &text, &row.fields))
 }
 
-/// How many octets the message of a block has.
-fn length(alloc: Global, block: Block) -> Result<usize, AllocError> {
-    Ok(block.with(alloc, &[])?.len())
+/// Whether the message of a block has so many octets.
+fn is_length(alloc: Global, block: Block, length: usize) -> Result<bool, AllocError> {
+    Ok(block.with(alloc, &[])?.len() == length)
 }
 
 /// The certificate block whose fragment is written so, with a FLEN.
@@ -126,10 +132,10 @@ fn is_fragment(
     Ok(is_block(alloc, &text, &Fields::Certificate(fields)))
 }
 
-/// What the block is where four are announced.
-fn kind_of_longer(alloc: Global, raw: &'static [u8]) -> Result<Option<Kind>, AllocError> {
+/// Whether the block is refused for its fragment where four are announced.
+fn is_longer_refused(alloc: Global, raw: &'static [u8]) -> Result<bool, AllocError> {
     let text = with_fragment(alloc, b"4", raw)?;
-    Ok(kind_of(alloc, &text))
+    Ok(kind_of(alloc, &text) == Some(Kind::Spoilt(Spoil::Fragment)))
 }
 
 #[test]
@@ -137,128 +143,57 @@ fn blocks(rt: HostRuntime) -> Result<(), Fail> {
     for row in &ROWS {
         assert!(rt; is_read(rt.alloc(), row)?, "{}", row.name);
     }
-    assert_eq!(rt; length(rt.alloc(), Block::Signature)?, 159);
-    assert_eq!(rt; length(rt.alloc(), Block::Certificate)?, 142);
-    let refused = Some(Kind::Spoilt(Spoil::Fragment));
+    assert!(rt; is_length(rt.alloc(), Block::Signature, 159)?);
+    assert!(rt; is_length(rt.alloc(), Block::Certificate, 142)?);
     for (raw, octets) in &ESCAPED {
         assert!(rt; is_fragment(rt.alloc(), raw, octets)?, "for {raw:?}");
-        assert_eq!(rt; kind_of_longer(rt.alloc(), raw)?, refused, "for {raw:?}");
+        assert!(rt; is_longer_refused(rt.alloc(), raw)?, "for {raw:?}");
     }
     Ok(())
 }
 
-/// Texts as they stand, and what they are.
-const TEXTS: [(&[u8], Kind); 12] = [
-    (b"abc", Kind::Unparsed(Part::Pri, 0)),
-    (b"", Kind::Unparsed(Part::Pri, 0)),
-    (b"<13>1 - - - - - -", Kind::Plain),
-    (b"<13>1 - - - - - - ssign", Kind::Plain),
-    (b"<13>1 - - - - - [x@1 SIGN=\"AAAA\"]", Kind::Plain),
-    (b"<13>1 - - - - - [ssign-certs]", Kind::Plain),
-    (b"<13>1 - - - - - [Ssign][SSIGN-CERT]", Kind::Plain),
-    (b"<13>1 - - - - - [ssign]", Kind::Spoilt(Spoil::Names)),
-    (b"<13>1 - - - - - [ssign-cert]", Kind::Spoilt(Spoil::Names)),
-    (
-        b"<13>1 - - - - - [ssign][ssign-cert]",
-        Kind::Spoilt(Spoil::BothBlocks),
-    ),
-    (
-        b"<13>1 - - - - - [ssign-cert][x][ssign]",
-        Kind::Spoilt(Spoil::BothBlocks),
-    ),
-    (
-        b"<13>1 - - - - - [ssign][ssign]",
-        Kind::Unparsed(Part::RepeatedId, 24),
-    ),
+/// What texts are, and the texts, with `|` between two.
+#[rattlefmt::skip]
+const TEXTS: [(Kind, &[u8]); 10] = [
+    (Kind::Unparsed(Part::Pri, 0), b"abc|"),
+    (Kind::Plain,
+        b"<13>1 - - - - - -|<13>1 - - - - - - ssign|<13>1 - - - - - [x@1 SIGN=\"AAAA\"]|\
+         <13>1 - - - - - [ssign-certs]|<13>1 - - - - - [Ssign][SSIGN-CERT]"),
+    (Kind::Spoilt(Spoil::Names), b"<13>1 - - - - - [ssign]|<13>1 - - - - - [ssign-cert]"),
+    // The parameters of each block in the element of the other.
+    (Kind::Spoilt(Spoil::Names),
+        b"<110>1 - h s - - [ssign VER=\"0111\" RSID=\"1\" SG=\"0\" SPRI=\"0\" TPBL=\"27\" INDEX=\"1\" \
+          FLEN=\"27\" FRAG=\"2009-05-03T14:00:39Z K S0VZ\" SIGN=\"AAAA\"]|\
+         <110>1 - h s - - [ssign-cert VER=\"0111\" RSID=\"1\" SG=\"0\" SPRI=\"0\" GBC=\"0\" FMN=\"1\" \
+          CNT=\"2\" HB=\"qZk+NkcGgWq6PiVxeFDCbJzQ2J0= hJg+RBw70m66rkqh+VEp5eVGcPE=\" SIGN=\"AAAA\"]"),
+    (Kind::Spoilt(Spoil::BothBlocks),
+        b"<13>1 - - - - - [ssign][ssign-cert]|<13>1 - - - - - [ssign-cert][x][ssign]|\
+         <110>1 - h s - - [ssign-cert VER=\"0111\" RSID=\"1\" SG=\"0\" SPRI=\"0\" TPBL=\"27\" \
+          INDEX=\"1\" FLEN=\"27\" FRAG=\"2009-05-03T14:00:39Z K S0VZ\" SIGN=\"AAAA\"][ssign VER=\"0111\" \
+          RSID=\"1\" SG=\"0\" SPRI=\"0\" GBC=\"0\" FMN=\"1\" CNT=\"2\" HB=\"qZk+NkcGgWq6PiVxeFDCbJzQ2J0= \
+          hJg+RBw70m66rkqh+VEp5eVGcPE=\" SIGN=\"AAAA\"]"),
+    (Kind::Unparsed(Part::RepeatedId, 24), b"<13>1 - - - - - [ssign][ssign]"),
+    (Kind::Signature, AMONG_OTHERS),
+    // One hash is announced, and HB, which is empty, is one piece.
+    (Kind::Spoilt(Spoil::Hash),
+        b"<110>1 - h s - - [ssign VER=\"0111\" RSID=\"1\" SG=\"0\" SPRI=\"0\" GBC=\"0\" FMN=\"1\" CNT=\"1\" HB=\"\" \
+          SIGN=\"AAAA\"]"),
+    // Fragments at the end of the largest payload.
+    (Kind::Certificate,
+        b"<110>1 - h s - - [ssign-cert VER=\"0111\" RSID=\"1\" SG=\"0\" SPRI=\"0\" TPBL=\"99999999\" \
+          INDEX=\"99999999\" FLEN=\"1\" FRAG=\"x\" SIGN=\"AAAA\"]"),
+    (Kind::Spoilt(Spoil::Fragment),
+        b"<110>1 - h s - - [ssign-cert VER=\"0111\" RSID=\"1\" SG=\"0\" SPRI=\"0\" TPBL=\"99999999\" \
+          INDEX=\"99999999\" FLEN=\"2\" FRAG=\"xx\" SIGN=\"AAAA\"]"),
 ];
-
-/// A part of a text.
-#[derive(Clone, Copy)]
-enum Piece {
-    /// These octets.
-    Text(&'static [u8]),
-    /// The element with this SD-ID and these parameters, edited.
-    Element(&'static [u8], &'static [Named], &'static [Edit]),
-}
-
-/// Texts put together after the header, and what they are.
-const PUT_TOGETHER: [(&str, &[Piece], Kind); 4] = [
-    (
-        "both elements",
-        &[
-            Piece::Element(b"ssign-cert", &CERTIFICATE, &[]),
-            Piece::Element(b"ssign", &SIGNATURE, &[]),
-        ],
-        Kind::Spoilt(Spoil::BothBlocks),
-    ),
-    (
-        "beside other elements",
-        &[
-            Piece::Text(b"[x@1 SIGN=\"AAAA\"]"),
-            Piece::Element(
-                b"ssign",
-                &SIGNATURE,
-                &[
-                    (b"CNT", Some(b"1")),
-                    (b"HB", Some(b"qZk+NkcGgWq6PiVxeFDCbJzQ2J0=")),
-                ],
-            ),
-            Piece::Text(b"[y@1 a=\"\\]\"] hello SIGN=\"AAAA\""),
-        ],
-        Kind::Signature,
-    ),
-    (
-        "the parameters of a certificate block in a signature block",
-        &[Piece::Element(b"ssign", &CERTIFICATE, &[])],
-        Kind::Spoilt(Spoil::Names),
-    ),
-    (
-        "the parameters of a signature block in a certificate block",
-        &[Piece::Element(b"ssign-cert", &SIGNATURE, &[])],
-        Kind::Spoilt(Spoil::Names),
-    ),
-];
-
-/// The text of these parts.
-fn put_together(alloc: Global, pieces: &[Piece]) -> Result<Vec<u8>, AllocError> {
-    let mut text = Vec::from_slice(alloc, HEAD)?;
-    for piece in pieces {
-        match piece {
-            Piece::Text(octets) => text.extend_from_slice(octets)?,
-            Piece::Element(id, parameters, edits) => {
-                put_element(&mut text, id, parameters, edits)?;
-            }
-        }
-    }
-    Ok(text)
-}
-
-/// What the parts are together, and how many octets they have.
-fn kind_together(alloc: Global, pieces: &[Piece]) -> Result<(Option<Kind>, usize), AllocError> {
-    let text = put_together(alloc, pieces)?;
-    Ok((kind_of(alloc, &text), text.len()))
-}
-
-/// The parts together are of that kind. The one signature block has 177 octets.
-fn sees_put_together(
-    rt: &(impl Abort + AllocGlobal),
-    name: &str,
-    pieces: &[Piece],
-    kind: Kind,
-) -> Result<(), AllocError> {
-    let (seen, length) = kind_together(rt.alloc(), pieces)?;
-    assert_eq!(rt; seen, Some(kind), "{name}");
-    assert!(rt; kind != Kind::Signature || length == 177, "{name}");
-    Ok(())
-}
 
 #[test]
 fn texts(rt: HostRuntime) -> Result<(), Fail> {
-    for (text, kind) in &TEXTS {
-        assert_eq!(rt; kind_of(rt.alloc(), text), Some(*kind), "for {text:?}");
+    for (kind, texts) in &TEXTS {
+        for text in texts.split(|octet| *octet == b'|') {
+            assert!(rt; kind_of(rt.alloc(), text) == Some(*kind), "for {text:?}");
+        }
     }
-    for (name, pieces, kind) in &PUT_TOGETHER {
-        sees_put_together(&rt, name, pieces, *kind)?;
-    }
+    assert!(rt; AMONG_OTHERS.len() == 177);
     Ok(())
 }

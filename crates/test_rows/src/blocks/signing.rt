@@ -4,8 +4,7 @@ use ss_block::{Session, pair_of, session_of, signed_bytes};
 use ss_message::Field;
 use ss_octets::NoMemory;
 use std::alloc::Global;
-use std::process::Abort;
-use std::test::Fail;
+use test_devices::Cells;
 
 /// A certificate block, and what is signed of it.
 const CERTIFICATE: &[u8] =
@@ -26,7 +25,7 @@ const SIGNATURE_SIGNED: &[u8] =
         HB=\"qZk+NkcGgWq6PiVxeFDCbJzQ2J0= hJg+RBw70m66rkqh+VEp5eVGcPE=\"]";
 
 /// A signature block between two elements, the first of them with a SIGN too, and a MSG that looks like one.
-const AMONG_OTHERS: &[u8] =
+pub const AMONG_OTHERS: &[u8] =
     b"<110>1 - h s - - [x@1 SIGN=\"AAAA\"][ssign VER=\"0111\" RSID=\"1\" SG=\"0\" SPRI=\"0\" GBC=\"0\" FMN=\"1\" \
         CNT=\"1\" HB=\"qZk+NkcGgWq6PiVxeFDCbJzQ2J0=\" SIGN=\"AAAA\"][y@1 a=\"\\]\"] hello SIGN=\"AAAA\"";
 
@@ -61,41 +60,23 @@ const HASH_COUNT: &[u8] =
     b"<110>1 - h s - - [ssign VER=\"0111\" RSID=\"1\" SG=\"0\" SPRI=\"0\" GBC=\"0\" FMN=\"1\" CNT=\"3\" \
         HB=\"qZk+NkcGgWq6PiVxeFDCbJzQ2J0= hJg+RBw70m66rkqh+VEp5eVGcPE=\" SIGN=\"AAAA\"]";
 
-/// HOSTNAME, APP-NAME and PROCID, none where absent, and RSID.
-type Sender = ([Option<&'static [u8]>; 3], u64);
-
-/// A block, what is signed of it, and its session.
-const BLOCKS: [(&[u8], &[u8], Sender); 5] = [
-    (
-        CERTIFICATE,
-        CERTIFICATE_SIGNED,
-        ([Some(b"h"), Some(b"s"), None], 1),
-    ),
-    (
-        SIGNATURE,
-        SIGNATURE_SIGNED,
-        ([Some(b"h"), Some(b"s"), None], 1),
-    ),
-    (
-        AMONG_OTHERS,
-        AMONG_OTHERS_SIGNED,
-        ([Some(b"h"), Some(b"s"), None], 1),
-    ),
-    (
-        BEFORE_OTHERS,
-        BEFORE_OTHERS_SIGNED,
-        ([Some(b"h"), Some(b"s"), None], 1),
-    ),
-    (ESCAPED, ESCAPED_SIGNED, ([None, None, Some(b"7")], 9)),
+/// A block, what is signed of it, and the cells of its session: HOSTNAME, APP-NAME and PROCID, each `-` where it is
+/// absent, and RSID.
+const BLOCKS: [(&[u8], &[u8], &[u8]); 5] = [
+    (CERTIFICATE, CERTIFICATE_SIGNED, b"h|s|-|1"),
+    (SIGNATURE, SIGNATURE_SIGNED, b"h|s|-|1"),
+    (AMONG_OTHERS, AMONG_OTHERS_SIGNED, b"h|s|-|1"),
+    (BEFORE_OTHERS, BEFORE_OTHERS_SIGNED, b"h|s|-|1"),
+    (ESCAPED, ESCAPED_SIGNED, b"-|-|7|9"),
 ];
 
 const NO_BLOCKS: [&[u8]; 4] = [b"abc", b"<13>1 - - - - - -", LAST_NUMBER, HASH_COUNT];
 
-/// The octets of a field, or none where it is absent.
-fn octets(field: &Field) -> Option<&[u8]> {
+/// The octets of a field; `-` where it is absent.
+fn octets(field: &Field) -> &[u8] {
     match field {
-        Field::Nil => None,
-        Field::Text(octets) => Some(octets.as_slice()),
+        Field::Nil => b"-",
+        Field::Text(octets) => octets.as_slice(),
     }
 }
 
@@ -152,16 +133,16 @@ fn signs(alloc: Global, text: &[u8], left: Option<&[u8]>) -> Result<bool, NoMemo
     }
 }
 
-fn is_of(session: &Session, sender: Sender) -> bool {
-    let (fields, rsid) = sender;
-    octets(&session.host) == fields[0]
-        && octets(&session.app) == fields[1]
-        && octets(&session.procid) == fields[2]
-        && session.rsid == rsid
+fn is_of(session: &Session, sender: &[u8]) -> bool {
+    let mut cells = Cells::new(sender);
+    octets(&session.host) == cells.octets()
+        && octets(&session.app) == cells.octets()
+        && octets(&session.procid) == cells.octets()
+        && Some(session.rsid) == cells.number()
 }
 
 /// Whether a text has this session, or none.
-fn is_sent(alloc: Global, text: &[u8], sender: Option<Sender>) -> Result<bool, NoMemory> {
+fn is_sent(alloc: Global, text: &[u8], sender: Option<&[u8]>) -> Result<bool, NoMemory> {
     match (session_of(alloc, text)?, sender) {
         (Some(session), Some(sender)) => Ok(is_of(&session, sender)),
         (None, None) => Ok(true),
@@ -169,42 +150,39 @@ fn is_sent(alloc: Global, text: &[u8], sender: Option<Sender>) -> Result<bool, N
     }
 }
 
-fn sees_left_out(rt: &impl Abort, row: &LeftOut) {
+/// Whether what is signed of the block is the block without the octets that are left out.
+fn is_left_out(row: &LeftOut) -> bool {
     let (start, end) = row.octets;
-    assert_eq!(rt; (row.block.len(), row.signed.len()), row.lengths);
-    assert_eq!(rt; row.signed.get(..start), row.block.get(..start));
-    assert_eq!(rt; row.signed.get(start..), row.block.get(end..));
+    (row.block.len(), row.signed.len()) == row.lengths
+        && row.signed.get(..start) == row.block.get(..start)
+        && row.signed.get(start..) == row.block.get(end..)
 }
 
-fn sees_hashes(
-    rt: &(impl Abort + AllocGlobal),
-    text: &[u8],
-    sha1: &str,
-    sha256: &str,
-) -> Result<(), Fail> {
+/// Whether these are the hashes of a text.
+fn are_hashes(alloc: Global, text: &[u8], sha1: &str, sha256: &str) -> Result<bool, NoMemory> {
     let pair = pair_of(text);
-    assert_eq!(rt; STANDARD.encode(rt.alloc(), &pair.sha1)?.as_str(), sha1);
-    assert_eq!(rt; STANDARD.encode(rt.alloc(), &pair.sha256)?.as_str(), sha256);
-    Ok(())
+    Ok(
+        STANDARD.encode(alloc, &pair.sha1)?.as_str() == sha1
+            && STANDARD.encode(alloc, &pair.sha256)?.as_str() == sha256,
+    )
 }
 
 #[test]
-fn signed_sent_and_hashed(rt: HostRuntime) -> Result<(), Fail> {
+fn signed_sent_and_hashed(rt: HostRuntime) -> Result<(), NoMemory> {
+    let alloc = rt.alloc();
     for (block, left, sender) in &BLOCKS {
-        let is_signed = signs(rt.alloc(), block, Some(left))?;
-        let is_sent = is_sent(rt.alloc(), block, Some(*sender))?;
-        assert!(rt; is_signed && is_sent, "of {block:?}");
+        assert!(rt; signs(alloc, block, Some(left))?, "of {block:?}");
+        assert!(rt; is_sent(alloc, block, Some(sender))?, "of {block:?}");
     }
     for text in &NO_BLOCKS {
-        let is_signed = signs(rt.alloc(), text, None)?;
-        let is_sent = is_sent(rt.alloc(), text, None)?;
-        assert!(rt; is_signed && is_sent, "of {text:?}");
+        assert!(rt; signs(alloc, text, None)?, "of {text:?}");
+        assert!(rt; is_sent(alloc, text, None)?, "of {text:?}");
     }
     for row in &LEFT_OUT {
-        sees_left_out(&rt, row);
+        assert!(rt; is_left_out(row), "of {:?}", row.block);
     }
     for (text, sha1, sha256) in &HASHES {
-        sees_hashes(&rt, text, sha1, sha256)?;
+        assert!(rt; are_hashes(alloc, text, sha1, sha256)?, "of {text:?}");
     }
     Ok(())
 }

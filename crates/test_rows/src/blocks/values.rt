@@ -1,9 +1,8 @@
 //! Each form in which a parameter may stand or may not: both ends of each range, and every form that is near one.
-use crate::blocks::elements::{Block, Edit, Kind, sees_kind};
+use crate::blocks::elements::{Block, Kind, sees_kind};
 use ss_block::Spoil;
 use std::alloc::AllocError;
 use std::process::Abort;
-use std::test::Fail;
 
 /// A parameter, what a block is with each of these values of it, and the values, with `|` between two.
 type Values = (&'static [u8], Kind, &'static [u8]);
@@ -83,37 +82,6 @@ const CERTIFICATE_VALUES: [Values; 23] = [
     (b"SIGN", Kind::Spoilt(Spoil::Sign), b"|AAA|AAB=|AB==|AA AA|AAAA\n|-_-_"),
 ];
 
-/// Blocks that are edited at several parameters.
-const EDITED: [(Block, &[Edit], Kind); 3] = [
-    // One hash is announced, and HB, which is empty, is one piece.
-    (
-        Block::Signature,
-        &[(b"CNT", Some(b"1")), (b"HB", Some(b""))],
-        Kind::Spoilt(Spoil::Hash),
-    ),
-    // Fragments at the end of the largest payload.
-    (
-        Block::Certificate,
-        &[
-            (b"TPBL", Some(b"99999999")),
-            (b"INDEX", Some(b"99999999")),
-            (b"FLEN", Some(b"1")),
-            (b"FRAG", Some(b"x")),
-        ],
-        Kind::Certificate,
-    ),
-    (
-        Block::Certificate,
-        &[
-            (b"TPBL", Some(b"99999999")),
-            (b"INDEX", Some(b"99999999")),
-            (b"FLEN", Some(b"2")),
-            (b"FRAG", Some(b"xx")),
-        ],
-        Kind::Spoilt(Spoil::Fragment),
-    ),
-];
-
 /// The block is of that kind with each of the values.
 fn sees_values(
     rt: &(impl Abort + AllocGlobal),
@@ -127,15 +95,12 @@ fn sees_values(
 }
 
 #[test]
-fn values(rt: HostRuntime) -> Result<(), Fail> {
+fn values(rt: HostRuntime) -> Result<(), AllocError> {
     for values in &SIGNATURE_VALUES {
         sees_values(&rt, Block::Signature, *values)?;
     }
     for values in &CERTIFICATE_VALUES {
         sees_values(&rt, Block::Certificate, *values)?;
-    }
-    for (block, edits, kind) in &EDITED {
-        sees_kind(&rt, *block, edits, *kind)?;
     }
     Ok(())
 }

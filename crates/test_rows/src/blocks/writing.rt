@@ -6,7 +6,7 @@ use ss_block::{
 use ss_message::{Field, Stamp};
 use ss_octets::{Bytes, NoMemory};
 use std::alloc::{AllocError, Global};
-use std::test::Fail;
+use test_devices::Cells;
 
 /// A signature block's message, and what is signed of it.
 const SIGNATURE: &[u8] =
@@ -41,11 +41,11 @@ const ESCAPED: &[u8] =
     b"<110>1 - h s - - [ssign-cert VER=\"0121\" RSID=\"0\" SG=\"1\" SPRI=\"110\" TPBL=\"9\" INDEX=\"3\" FLEN=\"5\" \
         FRAG=\"a\\\"\\\\\\]b\"]";
 
-/// PRI, and HOSTNAME, APP-NAME, PROCID and MSGID, which are absent where they have no octet.
-type HeadFields = (u8, [&'static [u8]; 4]);
+/// PRI, and the cells of HOSTNAME, APP-NAME, PROCID and MSGID, which are absent where they have no octet.
+type HeadFields = (u8, &'static [u8]);
 
 /// PRI 110, HOSTNAME `h` and APP-NAME `s`.
-const HEAD: HeadFields = (110, [b"h", b"s", b"", b""]);
+const HEAD: HeadFields = (110, b"h|s||");
 
 /// The block of two hashes.
 const TWO_HASHES: SignatureFields = SignatureFields {
@@ -133,7 +133,7 @@ const ROWS: [Row; 7] = [
     },
     Row {
         name: "a stamp and a MSGID",
-        head: (110, [b"h", b"s", b"", b"m"]),
+        head: (110, b"h|s||m"),
         stamp: b"2009-05-03T14:00:39Z",
         block: Fields::Signature(SignatureFields {
             alg: Alg::Sha1,
@@ -165,7 +165,7 @@ const ROWS: [Row; 7] = [
     },
     Row {
         name: "the last numbers",
-        head: (0, [b"", b"", b"", b""]),
+        head: (0, b"|||"),
         stamp: b"",
         block: Fields::Signature(SignatureFields {
             alg: Alg::Sha256,
@@ -191,12 +191,13 @@ fn field(alloc: Global, octets: &[u8]) -> Result<Field, AllocError> {
 
 fn head_of(alloc: Global, fields: &HeadFields) -> Result<Option<Head>, AllocError> {
     let (pri, texts) = fields;
+    let mut cells = Cells::new(texts);
     Ok(Head::new(
         *pri,
-        field(alloc, texts[0])?,
-        field(alloc, texts[1])?,
-        field(alloc, texts[2])?,
-        field(alloc, texts[3])?,
+        field(alloc, cells.octets())?,
+        field(alloc, cells.octets())?,
+        field(alloc, cells.octets())?,
+        field(alloc, cells.octets())?,
     ))
 }
 
@@ -293,14 +294,19 @@ fn is_written(alloc: Global, row: &Row) -> Result<bool, NoMemory> {
     }
 }
 
-/// Whether those of each row are written.
-pub(crate) fn is_each_written(alloc: Global) -> Result<bool, NoMemory> {
+/// The first row that is written otherwise.
+fn first_wrong(alloc: Global) -> Result<Option<&'static str>, NoMemory> {
     for row in &ROWS {
         if !is_written(alloc, row)? {
-            return Ok(false);
+            return Ok(Some(row.name));
         }
     }
-    Ok(true)
+    Ok(None)
+}
+
+/// Whether each row is written.
+pub(crate) fn is_each_written(alloc: Global) -> Result<bool, NoMemory> {
+    Ok(first_wrong(alloc)?.is_none())
 }
 
 /// A text, and how many octets it has.
@@ -312,51 +318,80 @@ const LENGTHS: [(&[u8], usize); 4] = [
 ];
 
 #[test]
-fn written(rt: HostRuntime) -> Result<(), Fail> {
-    for row in &ROWS {
-        assert!(rt; is_written(rt.alloc(), row)?, "{}", row.name);
-    }
+fn written(rt: HostRuntime) -> Result<(), NoMemory> {
+    let wrong = first_wrong(rt.alloc())?;
+    assert!(rt; wrong.is_none(), "{wrong:?}");
     for (text, length) in &LENGTHS {
-        assert_eq!(rt; text.len(), *length, "of {text:?}");
+        assert!(rt; text.len() == *length, "of {text:?}");
     }
     Ok(())
 }
 
-/// Whether a head is made of this PRI and these four texts, which are there also where they have no octet.
-fn is_head(alloc: Global, pri: u8, texts: &[&[u8]; 4]) -> Result<bool, AllocError> {
-    let hostname = Field::Text(bytes(alloc, texts[0])?);
-    let app_name = Field::Text(bytes(alloc, texts[1])?);
-    let procid = Field::Text(bytes(alloc, texts[2])?);
-    let msgid = Field::Text(bytes(alloc, texts[3])?);
-    Ok(Head::new(pri, hostname, app_name, procid, msgid).is_some())
+/// Whether a head is made of this PRI and the four texts of the cells, which are there also where they have no octet.
+fn is_head(alloc: Global, pri: u8, texts: &[u8]) -> Result<bool, AllocError> {
+    let mut cells = Cells::new(texts);
+    let head = Head::new(
+        pri,
+        Field::Text(bytes(alloc, cells.octets())?),
+        Field::Text(bytes(alloc, cells.octets())?),
+        Field::Text(bytes(alloc, cells.octets())?),
+        Field::Text(bytes(alloc, cells.octets())?),
+    );
+    Ok(head.is_some())
 }
 
-/// The longest HOSTNAME, APP-NAME, PROCID and MSGID.
-const LONGEST: [&[u8]; 4] = [&[b'x'; 255], &[b'x'; 48], &[b'x'; 128], &[b'x'; 32]];
-
-/// Whether there is a head of this PRI and these texts.
-const HEADS: [(bool, u8, [&[u8]; 4]); 14] = [
-    (true, 0, [b"h", b"s", b"p", b"m"]),
-    (true, 191, LONGEST),
-    (true, 110, [b"--", b"!", b"~", b"=\"]"]),
-    (false, 192, [b"h", b"s", b"p", b"m"]),
-    (false, 110, [b"-", b"s", b"p", b"m"]),
-    (false, 110, [b"h", b"-", b"p", b"m"]),
-    (false, 110, [b"h", b"s", b"-", b"m"]),
-    (false, 110, [b"h", b"s", b"p", b"-"]),
-    (false, 110, [&[b'x'; 256], b"s", b"p", b"m"]),
-    (false, 110, [b"h", &[b'x'; 49], b"p", b"m"]),
-    (false, 110, [b"h", b"s", &[b'x'; 129], b"m"]),
-    (false, 110, [b"h", b"s", b"p", &[b'x'; 33]]),
-    (false, 110, [b"", b"s", b"p", b"m"]),
-    (false, 110, [b"h h", b"s", b"p", b"\x7F"]),
+/// Whether there is a head of this PRI and the cells of HOSTNAME, APP-NAME, PROCID and MSGID.
+const HEADS: [(bool, u8, &[u8]); 9] = [
+    (true, 0, b"h|s|p|m"),
+    (true, 110, b"--|!|~|=\"]"),
+    (false, 192, b"h|s|p|m"),
+    (false, 110, b"-|s|p|m"),
+    (false, 110, b"h|-|p|m"),
+    (false, 110, b"h|s|-|m"),
+    (false, 110, b"h|s|p|-"),
+    (false, 110, b"|s|p|m"),
+    (false, 110, b"h h|s|p|\x7F"),
 ];
 
+/// Whether there is a head of HOSTNAME, APP-NAME, PROCID and MSGID of so many octets.
+const LONG_HEADS: [(bool, u8, [u32; 4]); 5] = [
+    (true, 191, [255, 48, 128, 32]),
+    (false, 110, [256, 1, 1, 1]),
+    (false, 110, [1, 49, 1, 1]),
+    (false, 110, [1, 1, 129, 1]),
+    (false, 110, [1, 1, 1, 33]),
+];
+
+/// A cell of so many octets, and what ends it.
+fn put_cell(text: &mut Vec<u8>, length: u32) -> Result<(), AllocError> {
+    for _ in 0..length {
+        text.push(b'x')?;
+    }
+    Ok(text.push(b'|')?)
+}
+
+/// Whether a head is made of texts of these lengths.
+fn is_long_head(alloc: Global, pri: u8, lengths: &[u32; 4]) -> Result<bool, AllocError> {
+    let mut texts = Vec::new(alloc);
+    for length in lengths {
+        put_cell(&mut texts, *length)?;
+    }
+    is_head(alloc, pri, texts.as_slice())
+}
+
 #[test]
-fn heads(rt: HostRuntime) -> Result<(), Fail> {
+fn heads(rt: HostRuntime) -> Result<(), AllocError> {
     for (made, pri, texts) in &HEADS {
-        let is_head = is_head(rt.alloc(), *pri, texts)?;
-        assert_eq!(rt; is_head, *made, "{pri} {texts:?}");
+        assert!(rt;
+            is_head(rt.alloc(), *pri, texts)? == *made,
+            "{pri} {texts:?}"
+        );
+    }
+    for (made, pri, lengths) in &LONG_HEADS {
+        assert!(rt;
+            is_long_head(rt.alloc(), *pri, lengths)? == *made,
+            "{pri} {lengths:?}"
+        );
     }
     Ok(())
 }

@@ -1,10 +1,11 @@
 //! Asks a frame reader for its frames, and compares each answer with what is wanted.
-use ss_frame::{Form, FrameFault, FrameReader, Limits, Step, Watched};
-use std::process::Abort;
-use test_devices::Pieces;
+use ss_frame::{FrameFault, FrameReader, Limits, Step, Watched};
+use std::alloc::{AllocError, Global};
+use std::io::Read;
+use test_devices::{Cells, Pieces};
 
 /// What a call is to answer.
-#[derive(Clone, Copy, Debug)]
+#[derive(Clone, Copy)]
 pub enum Want<'w> {
     /// This message.
     Message(&'w [u8]),
@@ -44,114 +45,171 @@ impl<'w> Want<'w> {
     }
 }
 
-/// The form of a stream, the most octets of a message, and the most messages.
-pub type Bounds = (Form, u32, u32);
-
-/// The standard limits, for frames.
-pub const FRAMES: Bounds = (Form::Frames, 65_536, 10_000_000);
-
-/// The standard limits, for lines.
-pub const LINES: Bounds = (Form::Lines, 65_536, 10_000_000);
-
-/// The limits with these bounds.
-pub(crate) fn limits_of(bounds: Bounds) -> Option<Limits> {
-    let (form, max_len, max_messages) = bounds;
+/// The limits that the next three cells state: `frames` or `lines`, the most octets of a message, and the most messages.
+pub(crate) fn limits_of(cells: &mut Cells<'_>) -> Option<Limits> {
+    let form = cells.octets();
+    let max_len = u32::try_from(cells.number()?).ok()?;
+    let max_messages = u32::try_from(cells.number()?).ok()?;
     let limits = Limits::new(max_len, max_messages)?;
-    Some(match form {
-        Form::Frames => limits,
-        Form::Lines => limits.lines(),
-    })
+    if form == b"lines".as_slice() {
+        return Some(limits.lines());
+    }
+    if form == b"frames".as_slice() {
+        Some(limits)
+    } else {
+        None
+    }
 }
 
-/// What a call is to answer, and how many octets it is to leave taken, of the reader as of the frames.
-#[derive(Clone, Copy)]
-struct Wanted<'w> {
-    want: Want<'w>,
-    offset: u64,
+/// The fault of this letter at an offset.
+fn fault_of(letter: u8, pos: u64) -> Option<FrameFault> {
+    match letter {
+        b'n' => Some(FrameFault::BadLength { pos }),
+        b'l' => Some(FrameFault::TooLong { pos }),
+        b'm' => Some(FrameFault::TooManyMessages { pos }),
+        b'e' => Some(FrameFault::EmptyLine { pos }),
+        _ => None,
+    }
 }
 
-/// One call, which is to answer as wanted.
-fn ask(
-    rt: &impl Abort,
-    name: &str,
+/// The answer of a cell. `=` stands before a message, and `.` is the end after a frame. Before an offset, `t` is the end
+/// inside the frame that begins there. `n`, `l`, `m` and `e` are the faults of a length that is no number, of one that
+/// is too long, of too many messages and of an empty line.
+fn want_of(cell: &[u8]) -> Option<Want<'_>> {
+    let (letter, rest) = cell.split_first()?;
+    if *letter == b'=' {
+        return Some(Want::Message(rest));
+    }
+    if *letter == b'.' {
+        return Some(Want::Done);
+    }
+    let pos = Cells::new(rest).number()?;
+    if *letter == b't' {
+        return Some(Want::Torn(pos));
+    }
+    Some(Want::Fault(fault_of(*letter, pos)?))
+}
+
+/// An answer, and how many octets are then taken.
+fn wanted<'w>(cells: &mut Cells<'w>) -> Option<(Want<'w>, u64)> {
+    let taken = cells.number()?;
+    Some((want_of(cells.octets())?, taken))
+}
+
+/// The answers of the cells that are left, two cells each; none where a cell has none.
+pub(crate) fn wants_of<'w>(
+    alloc: Global,
+    cells: Cells<'w>,
+) -> Result<Option<Vec<(Want<'w>, u64)>>, AllocError> {
+    let mut cells = cells;
+    let mut wants = Vec::new(alloc);
+    for _ in 0..cells.rest().len() {
+        if cells.rest().is_empty() {
+            break;
+        }
+        let Some(want) = wanted(&mut cells) else {
+            return Ok(None);
+        };
+        wants.push(want)?;
+    }
+    Ok(Some(wants))
+}
+
+/// Whether a call answers so, and leaves so many octets taken, of the reader as of the frames.
+fn is_answered(
     frames: &mut FrameReader,
     pieces: &mut Pieces<'_>,
-    wanted: Wanted<'_>,
-) {
-    let Wanted { want, offset } = wanted;
+    want: Want<'_>,
+    taken: u64,
+) -> bool {
     let mut reader = Watched::new(*pieces);
     let answer = frames.next_frame(&mut reader);
-    let read_failed = reader.failed();
+    let failed = (reader.failed(), frames.failed());
     *pieces = reader.into_inner();
-    assert!(rt;
-        want.is_given(&answer),
-        "{name}: {answer:?}, not {want:?}, at {offset}"
-    );
-    let taken = (frames.offset(), pieces.taken);
-    assert_eq!(rt; taken, (offset, offset), "{name}: after {want:?}");
-    let failed = (read_failed, frames.failed());
-    assert_eq!(rt; failed, want.failures(), "{name}: at {offset}");
+    want.is_given(&answer)
+        && (frames.offset(), pieces.taken) == (taken, taken)
+        && failed == want.failures()
 }
 
-/// Asks for all frames of `pieces`. Each answer is wanted with the octets that are then taken. The last is an end, and
+/// Whether two more calls after an end answer so again, and read nothing.
+fn is_over(frames: &mut FrameReader, pieces: &mut Pieces<'_>, last: Want<'_>, taken: u64) -> bool {
+    let reads = pieces.reads;
+    let want = last.again();
+    is_answered(frames, pieces, want, taken)
+        && is_answered(frames, pieces, want, taken)
+        && pieces.reads == reads
+}
+
+/// Whether the frames of `pieces` are these answers, each with the octets that are then taken. The last is an end, and
 /// two more calls after it read nothing.
-pub(crate) fn ask_all(
-    rt: &(impl Abort + AllocGlobal),
-    name: &str,
+pub(crate) fn are_answers(
+    alloc: Global,
     limits: Limits,
     pieces: Pieces<'_>,
     wants: &[(Want<'_>, u64)],
-) {
+) -> bool {
     let mut pieces = pieces;
-    let mut frames = FrameReader::new(rt.alloc(), limits);
-    for (want, offset) in wants {
-        let wanted = Wanted {
-            want: *want,
-            offset: *offset,
-        };
-        ask(rt, name, &mut frames, &mut pieces, wanted);
+    let mut frames = FrameReader::new(alloc, limits);
+    for (want, taken) in wants {
+        if !is_answered(&mut frames, &mut pieces, *want, *taken) {
+            return false;
+        }
     }
-    if let Some((last, offset)) = wants.last() {
-        let reads = pieces.reads;
-        let wanted = Wanted {
-            want: last.again(),
-            offset: *offset,
-        };
-        ask(rt, name, &mut frames, &mut pieces, wanted);
-        ask(rt, name, &mut frames, &mut pieces, wanted);
-        assert_eq!(rt; pieces.reads, reads, "{name}: after {last:?}");
+    match wants.last() {
+        Some((last, taken)) => is_over(&mut frames, &mut pieces, *last, *taken),
+        None => false,
     }
 }
 
-/// One call, before which nothing has failed.
-fn next(
-    rt: &impl Abort,
+/// One call; none where something failed before it.
+fn next<R: Read>(
     frames: &mut FrameReader,
-    reader: &mut Watched<Pieces<'_>>,
-) -> Result<Step, FrameFault> {
-    assert!(rt;
-        !reader.failed() && !frames.failed(),
-        "at {}",
-        frames.offset()
-    );
-    frames.next_frame(reader)
+    reader: &mut Watched<R>,
+) -> Option<Result<Step, FrameFault>> {
+    if reader.failed() || frames.failed() {
+        return None;
+    }
+    Some(frames.next_frame(reader))
 }
 
-/// As `ask_all`, over one watched reader and up to the last of `wants`. A call that wants memory is made again.
-pub(crate) fn ask_on(
-    rt: &(impl Abort + AllocGlobal),
+/// One call, which is made again where it wants memory.
+fn next_again<R: Read>(
+    frames: &mut FrameReader,
+    reader: &mut Watched<R>,
+) -> Option<Result<Step, FrameFault>> {
+    match next(frames, reader) {
+        Some(Err(FrameFault::Memory)) => next(frames, reader),
+        answer => answer,
+    }
+}
+
+/// Whether a call, before which nothing has failed, answers so and leaves so many octets taken. A call that wants memory
+/// is made again.
+pub(crate) fn is_next<R: Read>(
+    frames: &mut FrameReader,
+    reader: &mut Watched<R>,
+    want: Want<'_>,
+    taken: u64,
+) -> bool {
+    match next_again(frames, reader) {
+        Some(answer) => want.is_given(&answer) && frames.offset() == taken,
+        None => false,
+    }
+}
+
+/// As `are_answers`, over one watched reader and up to the last of `wants`. A call that wants memory is made again.
+pub(crate) fn are_next(
+    alloc: Global,
     limits: Limits,
     pieces: Pieces<'_>,
     wants: &[(Want<'_>, u64)],
-) {
+) -> bool {
     let mut reader = Watched::new(pieces);
-    let mut frames = FrameReader::new(rt.alloc(), limits);
-    for (want, offset) in wants {
-        let answer = match next(rt, &mut frames, &mut reader) {
-            Err(FrameFault::Memory) => next(rt, &mut frames, &mut reader),
-            answer => answer,
-        };
-        assert!(rt; want.is_given(&answer), "{answer:?}, not {want:?}");
-        assert_eq!(rt; frames.offset(), *offset, "after {want:?}");
+    let mut frames = FrameReader::new(alloc, limits);
+    for (want, taken) in wants {
+        if !is_next(&mut frames, &mut reader, *want, *taken) {
+            return false;
+        }
     }
+    true
 }

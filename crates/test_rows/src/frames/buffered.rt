@@ -1,9 +1,9 @@
 //! A buffered reader, one of whose reads fails.
-use crate::frames::asking::Want;
+use crate::frames::asking::{Want, is_next};
 use ss_frame::{Buffered, FrameFault, FrameReader, Limits, Watched};
+use std::alloc::{AllocError, Global};
 use std::io;
 use std::io::{ErrorKind, Read};
-use std::process::Abort;
 use std::test::Fail;
 use test_devices::Pieces;
 
@@ -27,80 +27,58 @@ struct Row {
     ends: [u64; 2],
 }
 
-/// The next unit is `abc`, before which nothing has failed.
-fn sees_message<R: Read>(
-    rt: &impl Abort,
-    frames: &mut FrameReader,
-    reader: &mut Watched<R>,
-    read: u64,
-) {
-    assert!(rt; !reader.failed() && !frames.failed());
+/// Whether the next answer is this fault, after a read that has failed where it isn't the read's own.
+fn is_fault<R: Read>(frames: &mut FrameReader, reader: &mut Watched<R>, want: FrameFault) -> bool {
+    let had_failed = reader.failed();
+    if had_failed && !frames.failed() {
+        return false;
+    }
     let answer = frames.next_frame(reader);
-    let is_given = Want::Message(b"abc").is_given(&answer);
-    assert!(rt; is_given, "{answer:?}, read {read}");
+    had_failed == matches!(want, FrameFault::Failed)
+        && Want::Fault(want).is_given(&answer)
+        && reader.failed()
+        && frames.failed()
 }
 
-/// The next answer is this fault, after a read that has failed where it isn't the read's own.
-fn sees_fault<R: Read>(
-    rt: &impl Abort,
-    frames: &mut FrameReader,
-    reader: &mut Watched<R>,
-    want: FrameFault,
-    read: u64,
-) {
-    assert!(rt; !reader.failed() || frames.failed(), "before {want:?}");
-    assert_eq!(rt; reader.failed(), matches!(want, FrameFault::Failed));
-    let answer = frames.next_frame(reader);
-    let is_given = Want::Fault(want).is_given(&answer);
-    assert!(rt; is_given, "{answer:?}, not {want:?}, read {read}");
-    assert!(rt; reader.failed() && frames.failed());
-}
-
-/// Reads the units of `row` up to the octets that come before the read that fails. All of them are used, and the fault
-/// is reported once.
-fn sees_row(
-    rt: &(impl Abort + AllocGlobal),
-    row: &Row,
-    lent: Lent<'_, '_>,
-    came: u64,
-    read: u64,
-) -> Result<(), Fail> {
-    let mut reader = Watched::new(Buffered::new(rt.alloc(), lent)?);
-    let mut frames = FrameReader::new(rt.alloc(), row.limits);
+/// Whether the units of `row` are read up to the octets that come before the read that fails. All of them are used, and
+/// the fault is reported once.
+fn is_read(alloc: Global, row: &Row, lent: Lent<'_, '_>, came: u64) -> Result<bool, AllocError> {
+    let mut reader = Watched::new(Buffered::new(alloc, lent)?);
+    let mut frames = FrameReader::new(alloc, row.limits);
     for end in row.ends {
-        if end <= came {
-            sees_message(rt, &mut frames, &mut reader, read);
+        if end <= came && !is_next(&mut frames, &mut reader, Want::Message(b"abc"), end) {
+            return Ok(false);
         }
     }
     for want in [FrameFault::Read, FrameFault::Failed, FrameFault::Failed] {
-        sees_fault(rt, &mut frames, &mut reader, want, read);
+        if !is_fault(&mut frames, &mut reader, want) {
+            return Ok(false);
+        }
     }
-    assert_eq!(rt; frames.offset(), came, "read {read}");
-    Ok(())
+    Ok(frames.offset() == came)
 }
 
-/// Reads the units of `row` through a buffer. Each read of the buffer takes at most `most` octets, and the read of the
-/// number `read`, from 1, fails. Nothing is read after it. A read that the stream doesn't need is passed over.
+/// Whether the units of `row` are read so through a buffer. Each read of the buffer takes at most `most` octets, and the
+/// read of the number `read`, from 1, fails. Nothing is read after it. A read that the stream doesn't need is passed
+/// over.
 fn fails_at(
-    rt: &(impl Abort + AllocGlobal),
+    alloc: Global,
     row: &Row,
     most: u64,
     read: u64,
     kind: ErrorKind,
-) -> Result<(), Fail> {
+) -> Result<bool, AllocError> {
     let size = row.stream.len() as u64;
     if read > 1 && size <= read.saturating_sub(2).saturating_mul(most) {
-        return Ok(());
+        return Ok(true);
     }
     let came = size.min(read.saturating_sub(1).saturating_mul(most));
     let mut pieces = Pieces::failing(row.stream, most as usize, read, kind);
     let lent = Lent {
         pieces: &mut pieces,
     };
-    sees_row(rt, row, lent, came, read)?;
-    assert_eq!(rt; pieces.reads, read);
-    assert_eq!(rt; pieces.taken, came, "read {read}");
-    Ok(())
+    let is_read = is_read(alloc, row, lent, came)?;
+    Ok(is_read && pieces.reads == read && pieces.taken == came)
 }
 
 #[test]
@@ -121,8 +99,10 @@ fn a_read_that_fails_behind_a_buffer_is_told_once(rt: HostRuntime) -> Result<(),
     for row in &rows {
         for most in [1, 2, 3, 5, 100_000] {
             for read in 1..12 {
-                fails_at(&rt, row, most, read, ErrorKind::Interrupted)?;
-                fails_at(&rt, row, most, read, ErrorKind::Other)?;
+                for kind in [ErrorKind::Interrupted, ErrorKind::Other] {
+                    let fails = fails_at(rt.alloc(), row, most, read, kind)?;
+                    assert!(rt; fails, "{kind:?} at {read}, {most} octets at most");
+                }
             }
         }
     }

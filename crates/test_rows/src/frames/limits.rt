@@ -1,7 +1,5 @@
 //! The ranges of limits, and the form of a stream.
 use ss_frame::{Form, Limits};
-use std::process::Abort;
-use std::test::Fail;
 
 /// The most octets of a message, the most messages, and whether there are such limits.
 const RANGES: [(u32, u32, bool); 4] = [
@@ -11,28 +9,25 @@ const RANGES: [(u32, u32, bool); 4] = [
     (1_048_576, 10_000_000, true),
 ];
 
-/// The form, the most octets of a message, and the most messages.
-fn parts_of(limits: Limits) -> (Form, u32, u32) {
-    (limits.form(), limits.max_len(), limits.max_messages())
+/// Whether these are the form, the most octets of a message, and the most messages.
+fn are_parts(limits: Limits, form: Form, max_len: u32, max_messages: u32) -> bool {
+    limits.form() == form && limits.max_len() == max_len && limits.max_messages() == max_messages
 }
 
-/// Frames are the form unless lines are asked for.
-fn sees_forms(rt: &impl Abort, limits: Limits) {
+/// Whether limits of three octets and ten messages are for frames unless lines are asked for.
+fn has_forms(limits: Limits) -> bool {
     let lines = limits.lines();
-    assert_eq!(rt; limits.form(), Form::Frames);
-    assert_eq!(rt; parts_of(lines), (Form::Lines, 3, 10));
-    assert_eq!(rt; lines.lines(), lines);
+    limits.form() == Form::Frames && are_parts(lines, Form::Lines, 3, 10) && lines.lines() == lines
 }
 
 #[test]
-fn limits_have_ranges_and_a_form(rt: HostRuntime) -> Result<(), Fail> {
+fn limits_have_ranges_and_a_form(rt: HostRuntime) {
     for (max_len, max_messages, made) in &RANGES {
-        let limits = Limits::new(*max_len, *max_messages);
-        assert_eq!(rt; limits.is_some(), *made, "{max_len}, {max_messages}");
+        let is_made = Limits::new(*max_len, *max_messages).is_some();
+        assert!(rt; is_made == *made, "{max_len}, {max_messages}");
     }
-    let standard = Limits::new(65_536, 10_000_000).ok_or("no limits")?;
-    assert_eq!(rt; Limits::standard(), standard);
-    assert_eq!(rt; standard.form(), Form::Frames);
-    sees_forms(&rt, Limits::new(3, 10).ok_or("no limits")?);
-    Ok(())
+    let standard = Limits::standard();
+    assert!(rt; Limits::new(65_536, 10_000_000) == Some(standard));
+    assert!(rt; standard.form() == Form::Frames);
+    assert!(rt; Limits::new(3, 10).is_some_and(has_forms));
 }

@@ -1,22 +1,14 @@
 //! Octets and frames written, over writers that take little and writers that refuse.
 use ss_frame::{Watched, WriteFault, write_frame, write_octets};
 use std::io::ErrorKind;
-use std::process::Abort;
 use test_devices::{Paper, Refusal};
 
-/// Writes `message` to `paper`, which is then to hold `written`.
-fn writes(
-    rt: &impl Abort,
-    paper: Paper,
-    message: &[u8],
-    want: Result<(), WriteFault>,
-    written: &[u8],
-) {
+/// Whether `message` is answered so on this paper, which then holds `written`.
+fn is_written(paper: Paper, message: &[u8], want: Result<(), WriteFault>, written: &[u8]) -> bool {
     let mut writer = Watched::new(paper);
     let answer = write_frame(&mut writer, message);
-    let wants = (want, matches!(want, Err(WriteFault::Write)));
-    assert_eq!(rt; (answer, writer.failed()), wants, "{message:?}");
-    assert_eq!(rt; writer.into_inner().text(), written);
+    let failed = matches!(want, Err(WriteFault::Write));
+    answer == want && writer.failed() == failed && writer.into_inner().text() == written
 }
 
 /// A message and its frame.
@@ -27,32 +19,32 @@ const WRITTEN: [(&[u8], &[u8]); 3] = [
 ];
 
 /// No octet, no frame.
-fn sees_no_frame(rt: &impl Abort) {
+fn is_no_frame() -> bool {
     let mut writer = Watched::new(Paper::new(16));
     let answer = write_frame(&mut writer, b"");
-    assert!(rt; answer == Err(WriteFault::Empty) && !writer.failed());
-    assert_eq!(rt; writer.into_inner().writes, 0);
+    answer == Err(WriteFault::Empty) && !writer.failed() && writer.into_inner().writes == 0
 }
 
 /// Octets alone.
-fn sees_octets(rt: &impl Abort) {
+fn are_octets_written() -> bool {
     let mut writer = Watched::new(Paper::new(2));
     let is_written = write_octets(&mut writer, b"")
         && write_octets(&mut writer, b"abc")
         && write_octets(&mut writer, b"d");
     let paper = writer.into_inner();
-    assert!(rt; is_written && paper.writes == 3 && paper.text() == b"abcd".as_slice());
+    is_written && paper.writes == 3 && paper.text() == b"abcd".as_slice()
 }
 
 #[test]
 fn writes_a_message_behind_its_length(rt: HostRuntime) {
     for (message, frame) in &WRITTEN {
         for most in [1, 2, 16] {
-            writes(&rt, Paper::new(most), message, Ok(()), frame);
+            let is_written = is_written(Paper::new(most), message, Ok(()), frame);
+            assert!(rt; is_written, "{message:?}, {most} octets at most");
         }
     }
-    sees_no_frame(&rt);
-    sees_octets(&rt);
+    assert!(rt; is_no_frame());
+    assert!(rt; are_octets_written());
 }
 
 const REFUSALS: [Refusal; 3] = [
@@ -75,29 +67,43 @@ fn write_on(writer: &mut Watched<Paper>) -> ([Result<(), WriteFault>; 3], [bool;
     )
 }
 
-/// A writer that has failed is left alone, and a message without an octet is still reported first.
-fn sees_failed(rt: &impl Abort, refusal: Refusal) {
+/// Whether a writer that has failed is left alone, and a message without an octet is still reported first.
+fn is_left_alone(refusal: Refusal) -> bool {
     let mut writer = Watched::new(Paper::refusing(1, 2, refusal));
     let (frames, octets) = write_on(&mut writer);
     let write = Err(WriteFault::Write);
-    assert_eq!(rt; frames, [write, write, Err(WriteFault::Empty)]);
-    assert!(rt; octets == [false, false] && writer.failed());
+    let failed = writer.failed();
     let paper = writer.into_inner();
-    assert!(rt; paper.writes == 2 && paper.text() == b"3".as_slice());
+    frames == [write, write, Err(WriteFault::Empty)]
+        && octets == [false, false]
+        && failed
+        && paper.writes == 2
+        && paper.text() == b"3".as_slice()
+}
+
+/// Whether the write after so many octets of a frame is refused in this way. After five the frame is whole.
+fn is_refused(refusal: Refusal, octets: usize) -> bool {
+    let paper = Paper::refusing(1, (octets as u64).saturating_add(1), refusal);
+    match b"3 abc".get(..octets) {
+        Some(written) if octets < 5 => is_written(paper, b"abc", Err(WriteFault::Write), written),
+        Some(written) => is_written(paper, b"abc", Ok(()), written),
+        None => false,
+    }
+}
+
+/// Whether a write of one octet is refused, and a message without an octet is reported after it.
+fn is_first_refused() -> bool {
+    let mut writer = Watched::new(Paper::refusing(16, 1, Refusal::Nothing));
+    !write_octets(&mut writer, b"a") && write_frame(&mut writer, b"") == Err(WriteFault::Empty)
 }
 
 #[test]
 fn stops_at_each_write_that_is_refused(rt: HostRuntime) {
-    let frame = b"3 abc";
     for refusal in REFUSALS {
-        for octets in 0..5 {
-            let paper = Paper::refusing(1, octets as u64 + 1, refusal);
-            writes(&rt, paper, b"abc", Err(WriteFault::Write), &frame[..octets]);
+        for octets in 0..6 {
+            assert!(rt; is_refused(refusal, octets), "{refusal:?} after {octets}");
         }
-        writes(&rt, Paper::refusing(1, 6, refusal), b"abc", Ok(()), frame);
-        sees_failed(&rt, refusal);
+        assert!(rt; is_left_alone(refusal), "{refusal:?}");
     }
-    let mut writer = Watched::new(Paper::refusing(16, 1, Refusal::Nothing));
-    assert!(rt; !write_octets(&mut writer, b"a"));
-    assert_eq!(rt; write_frame(&mut writer, b""), Err(WriteFault::Empty));
+    assert!(rt; is_first_refused());
 }

@@ -1,140 +1,122 @@
 //! Streams of frames and of lines, whole and octet by octet.
-use crate::frames::asking::Want::{Done, Fault, Message, Torn};
-use crate::frames::asking::{Bounds, FRAMES, Want, ask_all, limits_of};
-use ss_frame::{Form, FrameFault, FrameReader, Limits, Watched};
-use std::process::Abort;
+use crate::frames::asking::Want::{Fault, Message};
+use crate::frames::asking::{Want, are_answers, limits_of, wants_of};
+use ss_frame::{FrameFault, FrameReader, Limits, Watched};
+use std::alloc::{AllocError, Global};
 use std::test::Fail;
-use test_devices::Pieces;
+use test_devices::{Cells, Pieces};
 
-/// A name, bounds, a stream, and each answer with the octets that are then taken. The last is an end.
-type Row = (
-    &'static str,
-    Bounds,
-    &'static [u8],
-    &'static [(Want<'static>, u64)],
-);
-
-/// Ten lines of three octets at most.
-const SHORT_LINES: Bounds = (Form::Lines, 3, 10);
-
-#[rattlefmt::skip]
-const ROWS: [Row; 28] = [
-    ("no frame", FRAMES, b"", &[(Done, 0)]),
-    ("torn in a length", FRAMES, b"12", &[(Torn(0), 2)]),
-    ("torn in a message", FRAMES, b"3 ab", &[(Torn(0), 4)]),
-    ("torn in the second message", FRAMES, b"3 abc3 ab", &[(Message(b"abc"), 5), (Torn(5), 9)]),
-    ("torn behind the largest length", FRAMES, b"65536 ", &[(Torn(0), 6)]),
-    ("length 0", FRAMES, b"0 ", &[(Fault(FrameFault::BadLength { pos: 0 }), 1)]),
-    ("leading 0", FRAMES, b"03 abc", &[(Fault(FrameFault::BadLength { pos: 0 }), 1)]),
-    ("no digit", FRAMES, b"x", &[(Fault(FrameFault::BadLength { pos: 0 }), 1)]),
-    ("no digit behind a digit", FRAMES, b"3x", &[(Fault(FrameFault::BadLength { pos: 1 }), 2)]),
-    ("no digit behind a frame", FRAMES, b"3 abcx",
-        &[(Message(b"abc"), 5), (Fault(FrameFault::BadLength { pos: 5 }), 6)]),
-    ("length of twenty digits", FRAMES, b"99999999999999999999", &[(Fault(FrameFault::TooLong { pos: 4 }), 5)]),
-    ("length past the limit", FRAMES, b"65537 ", &[(Fault(FrameFault::TooLong { pos: 4 }), 5)]),
-    ("the last frame", (Form::Frames, 3, 1), b"1 a", &[(Message(b"a"), 3), (Done, 3)]),
-    ("a frame behind the last one", (Form::Frames, 3, 1), b"1 a1 b",
-        &[(Message(b"a"), 3), (Fault(FrameFault::TooManyMessages { pos: 3 }), 4)]),
-    ("no line", SHORT_LINES, b"", &[(Done, 0)]),
-    ("a line", SHORT_LINES, b"abc\n", &[(Message(b"abc"), 4), (Done, 4)]),
-    ("CR and an octet past ASCII", SHORT_LINES, b"ab\r\n\xff\n",
-        &[(Message(b"ab\r"), 4), (Message(b"\xff"), 6), (Done, 6)]),
-    ("no LF", SHORT_LINES, b"abc", &[(Torn(0), 3)]),
-    ("no LF behind the second line", SHORT_LINES, b"abc\nab", &[(Message(b"abc"), 4), (Torn(4), 6)]),
-    ("an empty line", SHORT_LINES, b"\n", &[(Fault(FrameFault::EmptyLine { pos: 0 }), 1)]),
-    ("an empty line behind a line", SHORT_LINES, b"a\n\nb\n",
-        &[(Message(b"a"), 2), (Fault(FrameFault::EmptyLine { pos: 2 }), 3)]),
-    ("a line past the limit", SHORT_LINES, b"abcd\n", &[(Fault(FrameFault::TooLong { pos: 3 }), 4)]),
-    ("a line past the limit without LF", SHORT_LINES, b"abcd", &[(Fault(FrameFault::TooLong { pos: 3 }), 4)]),
-    ("CR past the limit", SHORT_LINES, b"abc\r\n", &[(Fault(FrameFault::TooLong { pos: 3 }), 4)]),
-    ("the second line past the limit", SHORT_LINES, b"abc\nabcd\n",
-        &[(Message(b"abc"), 4), (Fault(FrameFault::TooLong { pos: 7 }), 8)]),
-    ("the last line", (Form::Lines, 3, 1), b"a\n", &[(Message(b"a"), 2), (Done, 2)]),
-    ("LF behind the last line", (Form::Lines, 3, 1), b"a\n\n",
-        &[(Message(b"a"), 2), (Fault(FrameFault::TooManyMessages { pos: 2 }), 3)]),
-    ("an octet behind the last line", (Form::Lines, 3, 1), b"a\nb",
-        &[(Message(b"a"), 2), (Fault(FrameFault::TooManyMessages { pos: 2 }), 3)]),
-];
-
-/// The answers to frames of one message without an end, five of which may be read.
-const ENDLESS: [(Want<'static>, u64); 6] = [
-    (Message(b"a"), 3),
-    (Message(b"a"), 6),
-    (Message(b"a"), 9),
-    (Message(b"a"), 12),
-    (Message(b"a"), 15),
-    (Fault(FrameFault::TooManyMessages { pos: 15 }), 16),
-];
+/// Streams, with `;` between two: a name, the limits, the octets, and each answer after the octets that are then taken.
+/// The last is an end.
+const STREAMS: &[u8] = b"no frame|frames|65536|10000000||0|.;\
+     torn in a length|frames|65536|10000000|12|2|t0;\
+     torn in a message|frames|65536|10000000|3 ab|4|t0;\
+     torn in the second message|frames|65536|10000000|3 abc3 ab|5|=abc|9|t5;\
+     torn after the largest length|frames|65536|10000000|65536 |6|t0;\
+     length 0|frames|65536|10000000|0 |1|n0;\
+     leading 0|frames|65536|10000000|03 abc|1|n0;\
+     no digit|frames|65536|10000000|x|1|n0;\
+     no digit after a digit|frames|65536|10000000|3x|2|n1;\
+     no digit after a frame|frames|65536|10000000|3 abcx|5|=abc|6|n5;\
+     length of twenty digits|frames|65536|10000000|99999999999999999999|5|l4;\
+     length past the limit|frames|65536|10000000|65537 |5|l4;\
+     the last frame|frames|3|1|1 a|3|=a|3|.;\
+     a frame after the last one|frames|3|1|1 a1 b|3|=a|4|m3;\
+     no line|lines|3|10||0|.;\
+     a line|lines|3|10|abc\n|4|=abc|4|.;\
+     CR and an octet past ASCII|lines|3|10|ab\r\n\xff\n|4|=ab\r|6|=\xff|6|.;\
+     no LF|lines|3|10|abc|3|t0;\
+     no LF after the second line|lines|3|10|abc\nab|4|=abc|6|t4;\
+     an empty line|lines|3|10|\n|1|e0;\
+     an empty line after a line|lines|3|10|a\n\nb\n|2|=a|3|e2;\
+     a line past the limit|lines|3|10|abcd\n|4|l3;\
+     a line past the limit without LF|lines|3|10|abcd|4|l3;\
+     CR past the limit|lines|3|10|abc\r\n|4|l3;\
+     the second line past the limit|lines|3|10|abc\nabcd\n|4|=abc|8|l7;\
+     the last line|lines|3|1|a\n|2|=a|2|.;\
+     LF after the last line|lines|3|1|a\n\n|2|=a|3|m2;\
+     an octet after the last line|lines|3|1|a\nb|2|=a|3|m2";
 
 /// In pieces as large as they are asked for, and octet by octet.
 const MOST: [usize; 2] = [usize::MAX, 1];
 
-fn sees_row(rt: &(impl Abort + AllocGlobal), (name, _, stream, wants): Row, limits: Limits) {
-    for most in MOST {
-        ask_all(rt, name, limits, Pieces::new(stream, most), wants);
+/// Whether a stream is read so, in pieces of so many octets at most.
+fn is_stream(alloc: Global, row: &[u8], most: usize) -> Result<bool, AllocError> {
+    let mut cells = Cells::new(row);
+    cells.octets();
+    let Some(limits) = limits_of(&mut cells) else {
+        return Ok(false);
+    };
+    let pieces = Pieces::new(cells.octets(), most);
+    match wants_of(alloc, cells)? {
+        Some(wants) => Ok(are_answers(alloc, limits, pieces, wants.as_slice())),
+        None => Ok(false),
     }
 }
 
-fn sees_endless(rt: &(impl Abort + AllocGlobal), limits: Limits) {
-    for most in MOST {
-        let pieces = Pieces::endless(b"1 a", most);
-        ask_all(rt, "without an end", limits, pieces, &ENDLESS);
-    }
+/// Whether five frames are read of a stream without an end, and the sixth is one too many.
+fn is_endless(alloc: Global, most: usize) -> Result<bool, AllocError> {
+    let answers = b"3|=a|6|=a|9|=a|12|=a|15|=a|16|m15";
+    let (Some(limits), Some(wants)) = (Limits::new(3, 5), wants_of(alloc, Cells::new(answers))?)
+    else {
+        return Ok(false);
+    };
+    let pieces = Pieces::endless(b"1 a", most);
+    Ok(are_answers(alloc, limits, pieces, wants.as_slice()))
 }
 
 #[test]
 fn streams(rt: HostRuntime) -> Result<(), Fail> {
-    for row in &ROWS {
-        sees_row(&rt, *row, limits_of(row.1).ok_or("no limits")?);
+    for most in MOST {
+        for row in STREAMS.split(|octet| *octet == b';') {
+            assert!(rt; is_stream(rt.alloc(), row, most)?, "{row:?}");
+        }
+        assert!(rt; is_endless(rt.alloc(), most)?);
     }
-    sees_endless(&rt, Limits::new(3, 5).ok_or("no limits")?);
     Ok(())
 }
 
-/// The length is read by six reads, and the message by three.
-fn sees_reads(rt: &(impl Abort + AllocGlobal), pieces: Pieces<'_>) {
+/// Whether the length is read by six reads, and the message by three.
+fn are_short(alloc: Global, pieces: Pieces<'_>) -> bool {
     let mut reader = Watched::new(pieces);
-    let mut frames = FrameReader::new(rt.alloc(), Limits::standard());
-    assert!(rt; frames.next_frame(&mut reader).is_ok());
+    let mut frames = FrameReader::new(alloc, Limits::standard());
+    let is_read = frames.next_frame(&mut reader).is_ok();
     let pieces = reader.into_inner();
-    assert_eq!(rt; (pieces.longest, pieces.reads), (4_096, 9));
+    is_read && (pieces.longest, pieces.reads) == (4_096, 9)
+}
+
+/// Whether a frame and an octet are read so, in pieces of so many octets at most.
+fn is_long(alloc: Global, stream: &[u8; 10_007], most: usize) -> bool {
+    let wants = [
+        (Message(&stream[6..10_006]), 10_006),
+        (Fault(FrameFault::BadLength { pos: 10_006 }), 10_007),
+    ];
+    let pieces = Pieces::new(stream, most);
+    are_answers(alloc, Limits::standard(), pieces, &wants)
 }
 
 #[test]
 fn reads_a_long_message_in_short_reads(rt: HostRuntime) {
     let mut stream = [b'x'; 10_007];
     stream[..6].copy_from_slice(b"10000 ");
-    let wants = [
-        (Message(&stream[6..10_006]), 10_006),
-        (Fault(FrameFault::BadLength { pos: 10_006 }), 10_007),
-    ];
     for most in MOST {
-        let pieces = Pieces::new(&stream, most);
-        ask_all(&rt, "long", Limits::standard(), pieces, &wants);
+        assert!(rt; is_long(rt.alloc(), &stream, most));
     }
-    sees_reads(&rt, Pieces::new(&stream, usize::MAX));
+    assert!(rt; are_short(rt.alloc(), Pieces::new(&stream, usize::MAX)));
 }
 
-/// A stream, and what is left of it when the message `abc` was read.
-const LEFT: [(Form, &[u8], &[u8]); 2] = [
-    (Form::Frames, b"3 abc3 ab", b"3 ab"),
-    (Form::Lines, b"abc\nab", b"ab"),
-];
-
-fn sees_left(rt: &(impl Abort + AllocGlobal), limits: Limits, stream: &[u8], left: &[u8]) {
+/// Whether this is left of a stream when the message `abc` was read.
+fn is_left(alloc: Global, limits: Limits, stream: &[u8], left: &[u8]) -> bool {
     let mut reader = Watched::new(stream);
-    let mut frames = FrameReader::new(rt.alloc(), limits);
+    let mut frames = FrameReader::new(alloc, limits);
     let answer = frames.next_frame(&mut reader);
-    let is_given = Message(b"abc").is_given(&answer);
-    assert!(rt; is_given && !reader.failed(), "{answer:?}");
-    assert_eq!(rt; reader.into_inner(), left);
+    let is_given = Want::Message(b"abc").is_given(&answer);
+    is_given && !reader.failed() && reader.into_inner() == left
 }
 
 #[test]
-fn leaves_the_octets_behind_a_message_in_the_reader(rt: HostRuntime) -> Result<(), Fail> {
-    for (form, stream, left) in LEFT {
-        let limits = limits_of((form, 65_536, 10_000_000)).ok_or("no limits")?;
-        sees_left(&rt, limits, stream, left);
-    }
-    Ok(())
+fn leaves_the_octets_behind_a_message_in_the_reader(rt: HostRuntime) {
+    let frames = Limits::standard();
+    assert!(rt; is_left(rt.alloc(), frames, b"3 abc3 ab", b"3 ab"));
+    assert!(rt; is_left(rt.alloc(), frames.lines(), b"abc\nab", b"ab"));
 }

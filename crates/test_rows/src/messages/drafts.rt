@@ -6,6 +6,7 @@ use ss_message::{
 use ss_octets::Bytes;
 use std::alloc::{AllocError, Global};
 use std::test::Fail;
+use test_devices::Cells;
 
 fn bytes(alloc: Global, octets: &[u8]) -> Result<Bytes, AllocError> {
     Ok(Bytes::from_vec(Vec::from_slice(alloc, octets)?))
@@ -72,7 +73,7 @@ pub const FULL: &[u8] = b"<191>1 2009-05-03T14:00:39Z h s -- m [a@1 b=\"\\]\\\"\
 
 /// The draft of it.
 pub(crate) fn full(alloc: Global) -> Result<Draft, AllocError> {
-    let mut draft = header(alloc, 191, &[b"h", b"s", b"--", b"m"])?;
+    let mut draft = header(alloc, 191, b"h|s|--|m")?;
     draft.stamp = Stamp::new(2009, 5, 3, 14, 0, 39, 0, 0, Offset::Utc);
     draft.elements = two_elements(alloc)?;
     draft.msg = Some(bytes(alloc, b"")?);
@@ -102,91 +103,84 @@ fn field(alloc: Global, text: &[u8]) -> Result<Field, AllocError> {
     Ok(Field::Text(bytes(alloc, text)?))
 }
 
-/// A PRI, the four fields, and the part that is refused.
-const HEADERS: [(u8, [&[u8]; 4], Part); 8] = [
-    (192, [b"-", b"", b"", b""], Part::Pri),
-    (255, [b"", b"", b"", b""], Part::Pri),
-    (191, [b"-", b"-", b"", b""], Part::Hostname),
-    (0, [b"a b", b"", b"", b""], Part::Hostname),
-    (13, [b"h", b"\x7F", b"-", b""], Part::AppName),
-    (13, [b"h", b"", b"-", b"-"], Part::ProcId),
-    (13, [b"h", b"s", b"p", b"-"], Part::MsgId),
-    (
-        13,
-        [b"", b"", b"", b"012345678901234567890123456789012"],
-        Part::MsgId,
-    ),
+/// The part that is refused, a PRI, and the cells of the four fields.
+#[rattlefmt::skip]
+const HEADERS: [(Part, u8, &[u8]); 8] = [
+    (Part::Pri, 192, b"-|||"),
+    (Part::Pri, 255, b"|||"),
+    (Part::Hostname, 191, b"-|-||"),
+    (Part::Hostname, 0, b"a b|||"),
+    (Part::AppName, 13, b"h|\x7F|-|"),
+    (Part::ProcId, 13, b"h||-|-"),
+    (Part::MsgId, 13, b"h|s|p|-"),
+    (Part::MsgId, 13, b"|||012345678901234567890123456789012"),
 ];
 
-/// SD-ID, name and value of a parameter, a second SD-ID, a MSG, and the part that is refused.
-const BODIES: [([&[u8]; 5], Part); 8] = [
-    (
-        [b"a", b"b", b"\xFF", b"a", b"\xEF\xBB\xBF\xFF"],
-        Part::Value,
-    ),
-    ([b"a", b"", b"\xFF", b"a", b""], Part::Name),
-    ([b"a]", b"b", b"c", b"d", b""], Part::Name),
-    ([b"", b"b", b"c", b"d", b""], Part::Name),
-    ([b"a", b"b=", b"\xFF", b"a", b""], Part::Name),
-    (
-        [b"a", b"012345678901234567890123456789012", b"", b"d", b""],
-        Part::Name,
-    ),
-    (
-        [b"a", b"b", b"c", b"a", b"\xEF\xBB\xBF\xFF"],
-        Part::RepeatedId,
-    ),
-    ([b"a", b"b", b"c", b"d", b"\xEF\xBB\xBF\xFF"], Part::Msg),
+/// The part that is refused, and the cells of SD-ID, name and value of a parameter, of a second SD-ID, and of MSG.
+#[rattlefmt::skip]
+const BODIES: [(Part, &[u8]); 8] = [
+    (Part::Value, b"a|b|\xFF|a|\xEF\xBB\xBF\xFF"),
+    (Part::Name, b"a||\xFF|a|"),
+    (Part::Name, b"a]|b|c|d|"),
+    (Part::Name, b"|b|c|d|"),
+    (Part::Name, b"a|b=|\xFF|a|"),
+    (Part::Name, b"a|012345678901234567890123456789012||d|"),
+    (Part::RepeatedId, b"a|b|c|a|\xEF\xBB\xBF\xFF"),
+    (Part::Msg, b"a|b|c|d|\xEF\xBB\xBF\xFF"),
 ];
 
-fn header(alloc: Global, pri: u8, texts: &[&[u8]; 4]) -> Result<Draft, AllocError> {
-    Ok(Draft {
-        pri,
-        stamp: None,
-        hostname: field(alloc, texts[0])?,
-        app_name: field(alloc, texts[1])?,
-        procid: field(alloc, texts[2])?,
-        msgid: field(alloc, texts[3])?,
-        elements: DraftElements::from_vec(Vec::new(alloc)),
-        msg: None,
-    })
+fn put_fields(draft: &mut Draft, alloc: Global, cells: Cells<'_>) -> Result<(), AllocError> {
+    let mut cells = cells;
+    draft.hostname = field(alloc, cells.octets())?;
+    draft.app_name = field(alloc, cells.octets())?;
+    draft.procid = field(alloc, cells.octets())?;
+    draft.msgid = field(alloc, cells.octets())?;
+    Ok(())
+}
+
+/// The draft of a header.
+fn header(alloc: Global, pri: u8, texts: &[u8]) -> Result<Draft, AllocError> {
+    let mut draft = empty(alloc);
+    draft.pri = pri;
+    put_fields(&mut draft, alloc, Cells::new(texts))?;
+    Ok(draft)
 }
 
 fn put_elements(
     elements: &mut Vec<DraftElement>,
     alloc: Global,
-    texts: &[&[u8]; 5],
+    cells: &mut Cells<'_>,
 ) -> Result<(), AllocError> {
-    elements.push(element(alloc, texts[0], texts[1], texts[2])?)?;
-    Ok(elements.push(element(alloc, texts[3], b"b", b"")?)?)
+    let (id, name, value) = (cells.octets(), cells.octets(), cells.octets());
+    elements.push(element(alloc, id, name, value)?)?;
+    Ok(elements.push(element(alloc, cells.octets(), b"b", b"")?)?)
 }
 
-fn body(alloc: Global, texts: &[&[u8]; 5]) -> Result<Draft, AllocError> {
+/// The draft of two elements and a MSG.
+fn body(alloc: Global, texts: &[u8]) -> Result<Draft, AllocError> {
+    let mut cells = Cells::new(texts);
     let mut elements = Vec::new(alloc);
-    put_elements(&mut elements, alloc, texts)?;
+    put_elements(&mut elements, alloc, &mut cells)?;
     let mut draft = empty(alloc);
     draft.elements = DraftElements::from_vec(elements);
-    draft.msg = Some(bytes(alloc, texts[4])?);
+    draft.msg = Some(bytes(alloc, cells.octets())?);
     Ok(draft)
 }
 
-fn header_fault(
-    alloc: Global,
-    pri: u8,
-    texts: &[&[u8]; 4],
-) -> Result<Option<DraftFault>, AllocError> {
-    Ok(fault_of(alloc, &header(alloc, pri, texts)?))
+/// Whether a header is refused for this part.
+fn is_bad_header(alloc: Global, pri: u8, texts: &[u8], part: Part) -> Result<bool, AllocError> {
+    Ok(fault_of(alloc, &header(alloc, pri, texts)?) == bad(part))
 }
 
-fn body_fault(alloc: Global, texts: &[&[u8]; 5]) -> Result<Option<DraftFault>, AllocError> {
-    Ok(fault_of(alloc, &body(alloc, texts)?))
+fn is_bad_body(alloc: Global, texts: &[u8], part: Part) -> Result<bool, AllocError> {
+    Ok(fault_of(alloc, &body(alloc, texts)?) == bad(part))
 }
 
-/// The fault of a text without an octet, which is no text.
-fn no_text_fault(alloc: Global) -> Result<Option<DraftFault>, AllocError> {
+/// Whether a text without an octet, which is no text, is refused.
+fn is_no_text(alloc: Global) -> Result<bool, AllocError> {
     let mut draft = empty(alloc);
     draft.hostname = Field::Text(bytes(alloc, b"")?);
-    Ok(fault_of(alloc, &draft))
+    Ok(fault_of(alloc, &draft) == bad(Part::Hostname))
 }
 
 /// This part is refused.
@@ -196,16 +190,12 @@ fn bad(part: Part) -> Option<DraftFault> {
 
 #[test]
 fn not_written(rt: HostRuntime) -> Result<(), Fail> {
-    for (pri, texts, part) in &HEADERS {
-        assert_eq!(rt;
-            header_fault(rt.alloc(), *pri, texts)?,
-            bad(*part),
-            "{texts:?}"
-        );
+    for (part, pri, texts) in &HEADERS {
+        assert!(rt; is_bad_header(rt.alloc(), *pri, texts, *part)?, "{texts:?}");
     }
-    for (texts, part) in &BODIES {
-        assert_eq!(rt; body_fault(rt.alloc(), texts)?, bad(*part), "{texts:?}");
+    for (part, texts) in &BODIES {
+        assert!(rt; is_bad_body(rt.alloc(), texts, *part)?, "{texts:?}");
     }
-    assert_eq!(rt; no_text_fault(rt.alloc())?, bad(Part::Hostname));
+    assert!(rt; is_no_text(rt.alloc())?);
     Ok(())
 }

@@ -3,6 +3,7 @@ use ss_message::{Element, Message, Parameter, Span, Stamp, escape, parse, value,
 use ss_octets::NoMemory;
 use std::alloc::Global;
 use std::test::Fail;
+use test_devices::Cells;
 
 const FIRST: &[u8] =
     b"<34>1 2003-10-11T22:14:15.003Z mymachine.example.com su - ID47 - \xEF\xBB\xBF'su root' failed for lonvick on \
@@ -235,38 +236,30 @@ fn places(rt: HostRuntime) {
     assert!(rt; is_block(rt.alloc()));
 }
 
-/// A value as it stands, and what it stands for.
-const RAW: [(&[u8], &[u8]); 10] = [
-    (b"", b""),
-    (b"abc", b"abc"),
-    (b"\\]\\\"\\\\\\x", b"]\"\\\\x"),
-    (b"\\", b"\\"),
-    (b"\\\\", b"\\"),
-    (b"\\\\\\", b"\\\\"),
-    (b"\\n", b"\\n"),
-    (b"a\\\"b", b"a\"b"),
-    (b"\\x\\]", b"\\x]"),
-    (b"\xC3\xA9\\]", b"\xC3\xA9]"),
-];
+/// A value as it stands, and what it stands for, with `;` between two values.
+const RAW: &[u8] =
+    b"|;abc|abc;\\]\\\"\\\\\\x|]\"\\\\x;\\|\\;\\\\|\\;\\\\\\|\\\\;\\n|\\n;a\\\"b|a\"b;\\x\\]|\\x];\xC3\xA9\\]|\xC3\xA9]";
 
 /// A text, and how it is escaped.
-const ESCAPED: [(&[u8], &[u8]); 2] = [(b"]\"\\\\x", b"\\]\\\"\\\\\\\\x"), (b"a [=", b"a [=")];
+const ESCAPED: &[u8] = b"]\"\\\\x|\\]\\\"\\\\\\\\x;a [=|a [=";
 
-fn is_value(alloc: Global, raw: &[u8], want: &[u8]) -> Result<bool, NoMemory> {
-    Ok(value(alloc, raw)?.as_slice() == want)
+fn is_value(alloc: Global, row: &[u8]) -> Result<bool, NoMemory> {
+    let mut cells = Cells::new(row);
+    Ok(value(alloc, cells.octets())?.as_slice() == cells.octets())
 }
 
-fn is_escaped(alloc: Global, text: &[u8], want: &[u8]) -> Result<bool, NoMemory> {
-    Ok(escape(alloc, text)?.as_slice() == want)
+fn is_escaped(alloc: Global, row: &[u8]) -> Result<bool, NoMemory> {
+    let mut cells = Cells::new(row);
+    Ok(escape(alloc, cells.octets())?.as_slice() == cells.octets())
 }
 
 #[test]
 fn values(rt: HostRuntime) -> Result<(), Fail> {
-    for (raw, want) in &RAW {
-        assert!(rt; is_value(rt.alloc(), raw, want)?, "of {raw:?}");
+    for row in RAW.split(|octet| *octet == b';') {
+        assert!(rt; is_value(rt.alloc(), row)?, "of {row:?}");
     }
-    for (text, want) in &ESCAPED {
-        assert!(rt; is_escaped(rt.alloc(), text, want)?, "of {text:?}");
+    for row in ESCAPED.split(|octet| *octet == b';') {
+        assert!(rt; is_escaped(rt.alloc(), row)?, "of {row:?}");
     }
     Ok(())
 }

@@ -50,10 +50,10 @@ fn texts(rt: HostRuntime) -> Result<(), Fail> {
         assert!(rt; is_stamp(rt.alloc(), text)?, "{text:?}");
     }
     for text in REFUSED.split(|octet| *octet == b'|') {
-        assert_eq!(rt; Stamp::parse(text), None, "in {text:?}");
+        assert!(rt; Stamp::parse(text).is_none(), "in {text:?}");
     }
     for (text, other) in &DIFFERENT {
-        assert_ne!(rt; Stamp::parse(text), Stamp::parse(other), "{text:?}");
+        assert!(rt; Stamp::parse(text) != Stamp::parse(other), "{text:?}");
     }
     Ok(())
 }
