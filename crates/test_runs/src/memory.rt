@@ -23,7 +23,7 @@ use std::process::Abort;
 use test_devices::{Paper, Pieces};
 
 /// The RSID of a joined session, and the entries of its one group.
-struct Listing {
+struct Listed {
     rsid: u64,
     entries: &'static [Entry],
 }
@@ -31,7 +31,7 @@ struct Listing {
 /// A log, and what is reported of it: no message is unlisted, and each block is verified.
 struct Reviewed {
     log: &'static [Text],
-    sessions: &'static [Listing],
+    sessions: &'static [Listed],
     spoilt: &'static [SpoiltPlace],
     count: u32,
 }
@@ -39,7 +39,7 @@ struct Reviewed {
 const REVIEWED: [Reviewed; 3] = [
     Reviewed {
         log: &[Text::Short, Text::Long, Text::Certificate, Text::Both],
-        sessions: &[Listing {
+        sessions: &[Listed {
             rsid: 1,
             entries: &[
                 Entry::Listed {
@@ -63,7 +63,7 @@ const REVIEWED: [Reviewed; 3] = [
             Text::ShortAlone,
             Text::PastLastNumber,
         ],
-        sessions: &[Listing {
+        sessions: &[Listed {
             rsid: 1,
             entries: &[Entry::Listed {
                 number: 1,
@@ -85,14 +85,14 @@ const REVIEWED: [Reviewed; 3] = [
             Text::ShortOfSecondSession,
         ],
         sessions: &[
-            Listing {
+            Listed {
                 rsid: 1,
                 entries: &[Entry::Listed {
                     number: 1,
                     place: 0,
                 }],
             },
-            Listing {
+            Listed {
                 rsid: 2,
                 entries: &[Entry::Gap {
                     number: 1,
@@ -138,7 +138,7 @@ fn questions(reviewer: &Reviewer) -> Result<Questions, ReviewFault> {
     }
 }
 
-fn is_session(session: &SessionReport, wanted: &Listing) -> bool {
+fn is_session(session: &SessionReport, wanted: &Listed) -> bool {
     let [group] = session.groups.as_slice() else {
         return false;
     };
@@ -147,7 +147,7 @@ fn is_session(session: &SessionReport, wanted: &Listing) -> bool {
         && group.entries.as_slice() == wanted.entries
 }
 
-fn are_sessions(sessions: &[SessionReport], wanted: &[Listing]) -> bool {
+fn are_sessions(sessions: &[SessionReport], wanted: &[Listed]) -> bool {
     for (session, wanted) in sessions.iter().zip(wanted) {
         if !is_session(session, wanted) {
             return false;
