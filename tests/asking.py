@@ -45,7 +45,8 @@ class StandIn:
     def __init__(self, program: str, words: Sequence[str]) -> None:
         self._shared = [it for it in words[1:] if not it.startswith(("--ask=", "--answers="))]
         self._program = program
-        self._ask, self._given = (next(it.partition("=")[2] for it in words if it.startswith(name)) for name in ("--ask=", "--answers="))
+        given = dict(it.split("=", 1) for it in words if it.startswith(("--ask=", "--answers=")))
+        self._ask, self._given = given["--ask"], given["--answers"]
 
     def read_log(self) -> None:
         """Reads all of standard input."""
@@ -335,7 +336,8 @@ def check_broken(bench: Bench) -> None:
         for (broken, said), done in zip(BROKEN.items(), pool.map(bench.break_at, BROKEN)):
             tell(f"{broken}: status 2, and no output", done.status == 2 and not done.out, done)
             tell(f"{broken}: what is said", done.complaint.startswith(said) and done.complaint.count("\n") == 1, done)
-            tell(f"{broken}: nothing is left", not done.left and not any(os.path.exists(f"/proc/{it}") for it in done.called), done)
+            is_over = not any(os.path.exists(f"/proc/{it}") for it in done.called)
+            tell(f"{broken}: nothing is left", is_over and not done.left, done)
 
 
 def check_counts(bench: Bench) -> None:
@@ -345,8 +347,8 @@ def check_counts(bench: Bench) -> None:
     with gzip.open("log.gz", "wb") as packed:
         packed.write(log)
     whole = ["review", len(log), hashlib.sha256(log).hexdigest()]
-    for what, words, most in (("plain", [], 1), ("--json", ["--json"], 1), ("--raw", ["--raw"], 1), ("a page", ["--html", "page"], 2),
-                              ("details and a page", ["--details", "--html", "page2"], 2), ("by two", ["--jobs", "2"], 1)):
+    for what, words in (("plain", []), ("--json", ["--json"]), ("--raw", ["--raw"]), ("a page", ["--html", "page"]),
+                        ("details and a page", ["--details", "--html", "page"]), ("by two", ["--jobs", "2"])):
         for name in ("log", "log.gz", "-"):
             called = f"counted.{what.replace(' ', '-')}.{name}"
             with open("log", "rb") as source:
@@ -355,7 +357,7 @@ def check_counts(bench: Bench) -> None:
                 os.remove(words[-1])
             runs = [json.loads(it) for it in done.called]
             tell(f"{what}, {name}: the status", done.status == 0 and bool(done.out), done)
-            tell(f"{what}, {name}: ssign is run once", 1 <= len(runs) <= most and runs[0] == whole, runs)
+            tell(f"{what}, {name}: ssign is run once", runs == [whole], runs)
 
 
 def check_changed(bench: Bench) -> None:

@@ -793,9 +793,8 @@ holds 'a bad line of counters on a terminal: the same sentence' cmp out <(bad_co
 rm called
 keys verify --key keys/public-key.pem --counters counters.1 --max-len 9999 --ssign ./recording signed
 says 'the words of ssign with --counters: the verdict' 0 "$all_there Nothing is missing up to the counters."
-holds 'the words of ssign with --counters' cmp <(sed 's#=/[^ ]*/\(answers\|counters\)#=\1#g' called) \
-    <(printf '%s\n' --version 'review --counters=counters' 'review --max-len=9999 --salvage' 'questions --once --json --max-len=9999 --salvage' \
-        'review --answers=answers --counters=counters --in-order --max-len=9999 --salvage')
+holds 'the words of ssign with --counters' cmp <(sed 's|=/[^ ]*/|=|g' called) \
+    <(printf '%s\n' --version 'review --counters=counters' 'review --ask=asked --answers=given --counters=counters --in-order --max-len=9999 --salvage')
 
 # ---- what no block signed, and hostile texts
 for it in logger rsyslog syslog-ng; do

@@ -39,8 +39,8 @@ def ask(settings: Settings, trust: Trust, reader: Reader, workplace: Workplace) 
 
     disputed = find_disputed(settings, read_again, workplace)
     known = Search(read_again, settings.are_lines, workplace).run(disputed, trust, 1)
-    asking = Run(settings.program, ["questions", "--once", *known.words, *settings.log_words], workplace, Progress(), subprocess.PIPE,
-                 subprocess.PIPE)
+    words = ["questions", "--once", *known.words, *settings.log_words]
+    asking = Run(settings.program, words, workplace, Progress(), subprocess.PIPE, subprocess.PIPE)
     asking.feed(filter(known.asks, candidates(reader, settings.are_lines)))
     weak: Dict[str, None] = {}
     try:

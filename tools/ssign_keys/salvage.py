@@ -19,6 +19,11 @@ class Salvaged(NamedTuple):
     torn: Optional[int]
     """The octet from which on it breaks off."""
 
+    @property
+    def is_log(self) -> bool:
+        """Whether it can be a log: of another file nothing is read, and all of it is damaged."""
+        return self.messages > 0 or not self.damage
+
 
 def salvaged(lines: Iterable[bytes]) -> Salvaged:
     """What the lines of an inspection report."""

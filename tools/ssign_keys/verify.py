@@ -2,7 +2,6 @@
 from __future__ import annotations
 
 import argparse
-import os
 import subprocess
 from itertools import chain
 from typing import TYPE_CHECKING, BinaryIO, Iterator, List, NamedTuple, Optional, Tuple, Union
@@ -299,7 +298,8 @@ class Verifier:
         """Has ssign review the log in one run, which asks and is answered. Keeps the answers, and the report."""
         self._report = self._workplace.new_file("report")
         try:
-            with Asking(self._program, [*self.missing.words, *self._order, *self._words], self._workplace, self._progress, self._report) as asking:
+            words = [*self.missing.words, *self._order, *self._words]
+            with Asking(self._program, words, self._workplace, self._progress, self._report) as asking:
                 asking.feed(self._log.octets(self._progress))
                 self._keep(asking.questions(), trust)
                 with open(self.answers_path, "rb") as kept:
