@@ -1,4 +1,5 @@
-//! Readers, writers and rows for the tests of other crates: their octets are known, and they fail where a test wants it.
+//! Readers, writers and rows for the tests of other crates: their octets are known, and they fail where a test wants
+//! it.
 #![tactic(auto)]
 
 mod cells;

@@ -7,8 +7,8 @@ use std::alloc::{AllocError, Global};
 use std::test::Fail;
 use test_devices::Cells;
 
-/// Texts, with `;` between two: the text, its kind and its blob, and what is written of it again: the same, but for an SP
-/// after the `N` of a predistributed key.
+/// Texts, with `;` between two: the text, its kind and its blob, and what is written of it again: the same, but for an
+/// SP after the `N` of a predistributed key.
 const ACCEPTED: &[u8] = b"2009-05-03T14:00:39Z K S0VZ|K|KEY|2009-05-03T14:00:39Z K S0VZ;\
      2009-05-03T14:00:39Z C S0VZ|C|KEY|2009-05-03T14:00:39Z C S0VZ;\
      2009-05-03T14:00:39Z P S0VZ|P|KEY|2009-05-03T14:00:39Z P S0VZ;\

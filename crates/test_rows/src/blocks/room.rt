@@ -51,22 +51,19 @@ const CALLS: [Call; 7] = [
     Call::Value,
 ];
 
-/// Joins a fragment as the last octets of a payload.
-fn join_last(alloc: Global, total: u32, fragment: &[u8]) -> Result<(), NoMemory> {
-    let mut joiner = Joiner::new(alloc);
-    let index = total.wrapping_sub(fragment.len() as u32).wrapping_add(1);
-    if let Some(answer) = add(&mut joiner, total, index, fragment) {
-        answer?;
-    }
-    joiner.payload()?;
-    Ok(())
-}
-
 /// Joins the front of a text as the last octets of the longest payload there is, and as a payload of its own.
 fn join(alloc: Global, text: &[u8]) -> Result<(), NoMemory> {
-    let fragment = text.get(..9_999).unwrap_or(text);
-    join_last(alloc, 99_999_999, fragment)?;
-    join_last(alloc, fragment.len() as u32, fragment)
+    let fragment = &text[..text.len().min(9_999)];
+    let mut joiner = Joiner::new(alloc);
+    for total in [99_999_999, fragment.len() as u32] {
+        let index = total - fragment.len() as u32 + 1;
+        if let Some(answer) = add(&mut joiner, total, index, fragment) {
+            answer?;
+        }
+        joiner.payload()?;
+        joiner = Joiner::new(alloc);
+    }
+    Ok(())
 }
 
 /// Makes a call, and lets go of what it gives.

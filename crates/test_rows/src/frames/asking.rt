@@ -45,7 +45,8 @@ impl<'w> Want<'w> {
     }
 }
 
-/// The limits that the next three cells state: `frames` or `lines`, the most octets of a message, and the most messages.
+/// The limits that the next three cells state: `frames` or `lines`, the most octets of a message, and the most
+/// messages.
 pub(crate) fn limits_of(cells: &mut Cells<'_>) -> Option<Limits> {
     let form = cells.octets();
     let max_len = u32::try_from(cells.number()?).ok()?;
@@ -72,9 +73,9 @@ fn fault_of(letter: u8, pos: u64) -> Option<FrameFault> {
     }
 }
 
-/// The answer of a cell. `=` stands before a message, and `.` is the end after a frame. Before an offset, `t` is the end
-/// inside the frame that begins there. `n`, `l`, `m` and `e` are the faults of a length that is no number, of one that
-/// is too long, of too many messages and of an empty line.
+/// The answer of a cell. `=` stands before a message, and `.` is the end after a frame. Before an offset, `t` is the
+/// end inside the frame that begins there. `n`, `l`, `m` and `e` are the faults of a length that is no number, of one
+/// that is too long, of too many messages and of an empty line.
 fn want_of(cell: &[u8]) -> Option<Want<'_>> {
     let (letter, rest) = cell.split_first()?;
     if *letter == b'=' {
@@ -183,8 +184,8 @@ fn next_again<R: Read>(
     }
 }
 
-/// Whether a call, before which nothing has failed, answers so and leaves so many octets taken. A call that wants memory
-/// is made again.
+/// Whether a call, before which nothing has failed, answers so and leaves so many octets taken. A call that wants
+/// memory is made again.
 pub(crate) fn is_next<R: Read>(
     frames: &mut FrameReader,
     reader: &mut Watched<R>,

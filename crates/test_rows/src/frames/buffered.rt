@@ -58,9 +58,9 @@ fn is_read(alloc: Global, row: &Row, lent: Lent<'_, '_>, came: u64) -> Result<bo
     Ok(frames.offset() == came)
 }
 
-/// Whether the units of `row` are read so through a buffer. Each read of the buffer takes at most `most` octets, and the
-/// read of the number `read`, from 1, fails. Nothing is read after it. A read that the stream doesn't need is passed
-/// over.
+/// Whether the units of `row` are read so through a buffer. Each read of the buffer takes at most `most` octets, and
+/// the read of the number `read`, from 1, fails. Nothing is read after it. A read that the stream doesn't need is
+/// passed over.
 fn fails_at(
     alloc: Global,
     row: &Row,

@@ -14,8 +14,8 @@ const KINDS: [ErrorKind; 3] = [
 ];
 
 /// Streams that are read octet by octet, and of which a read fails: its limits, its octets, and the answers before the
-/// read that fails. They come with how many octets are taken before it: from the first number up to below the second, in
-/// turn.
+/// read that fails. They come with how many octets are taken before it: from the first number up to below the second,
+/// in turn.
 const FAILING: [(&[u8], u64, u64); 5] = [
     // In the first frame, and in the second.
     (b"frames|65536|10000000|3 abc3 ab", 0, 5),

@@ -237,8 +237,8 @@ fn places(rt: HostRuntime) {
 }
 
 /// A value as it stands, and what it stands for, with `;` between two values.
-const RAW: &[u8] =
-    b"|;abc|abc;\\]\\\"\\\\\\x|]\"\\\\x;\\|\\;\\\\|\\;\\\\\\|\\\\;\\n|\\n;a\\\"b|a\"b;\\x\\]|\\x];\xC3\xA9\\]|\xC3\xA9]";
+const RAW: &[u8] = b"|;abc|abc;\\]\\\"\\\\\\x|]\"\\\\x;\\|\\;\\\\|\\;\\\\\\|\\\\;\\n|\\n;\
+      a\\\"b|a\"b;\\x\\]|\\x];\xC3\xA9\\]|\xC3\xA9]";
 
 /// A text, and how it is escaped.
 const ESCAPED: &[u8] = b"]\"\\\\x|\\]\\\"\\\\\\\\x;a [=|a [=";
