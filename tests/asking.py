@@ -55,7 +55,8 @@ class StandIn:
 
     def _ssign(self, *words: str) -> bytes:
         with open("log", "rb") as log:
-            return subprocess.run([self._program, *words, *self._shared], stdin=log, stdout=subprocess.PIPE, check=False).stdout
+            shared = [it for it in self._shared if words[0] == "review" or it != "--in-order"]
+            return subprocess.run([self._program, *words, *shared], stdin=log, stdout=subprocess.PIPE, check=False).stdout
 
     def ask(self, change: Callable[[bytes], bytes] = lambda it: it) -> None:
         """Writes the questions, as they are changed, and closes their file."""
