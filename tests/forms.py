@@ -258,10 +258,10 @@ def main():
         for command in ("questions", "questions --once", "counters"):
             said = run(command, b"x" + log, "--json")
             tell(f"a refusal of {command}", "" if said == (2, b"ssign: F1 0\n") else repr(said))
-        # the lines `blocks` are those of `--whole`, `tail` of `--counters`, `early` and `beyond` of `--from`, and counts those of
-        # `--tally`: tests/whole.py, kept.py, between.py and tally.py
+        # the lines `blocks` are those of `--whole`, `tail` of `--counters`, `early` and `beyond` of `--from`, counts those of
+        # `--tally`, and `disorder` and `empty` those of their options: tests/whole.py, kept.py, between.py, tally.py and order.py
         wanted = {*KEYS, *OTHER_KEYS} - {"blocks", "tail", "early", "beyond", "tally", "unlisted-count", "refused-count",
-                                         "spoilt-count", "damaged-count"}
+                                         "spoilt-count", "damaged-count", "disorder", "empty"}
         tell("each kind of line was seen", "" if words_seen == wanted else f"{wanted ^ words_seen}")
     print(f"forms: {passed} passed, {failed} failed")
     return 1 if failed else 0
