@@ -105,14 +105,15 @@ text() {
 }
 holds 'texts stay texts, in attributes too' text texts "$root/tools"
 # page WHAT STATUS WORD..: the page of a check by these words has its form, and its text is what the JSON says. It is
-# WHAT.html, and the JSON WHAT.json.
+# WHAT.html, and the JSON WHAT.json. Only of an empty log standard error has a line.
 page() {
-    local what=$1 wanted=$2
+    local what=$1 wanted=$2 said=
     shift 2
+    [[ $what != empty ]] || said='ssign-keys: warning: empty.frames: the log is empty, so it shows nothing: only counters or a manifest show whether something is missing'
     keys verify --json --html "$what.html" "$@"
     cp out "$what.json"
     holds "$what: status $wanted" test "$status" = "$wanted"
-    holds "$what: nothing on standard error" test ! -s err
+    holds "$what: what standard error has" test "$(<err)" = "$said"
     holds "$what: the form of the page" text form "$what.html"
     validate "$what: HTML" "$what.html"
     holds "$what: the page is what the JSON says" text same "$what.json" "$what.html"
