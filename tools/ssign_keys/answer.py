@@ -39,12 +39,10 @@ class Answered(NamedTuple):
 
 @dataclass
 class Counts:
-    """How many lines were asked, and how many of them hold."""
+    """How many payloads were asked about, and how many of them are trusted."""
 
     payloads: int = 0
     trusted_payloads: int = 0
-    blocks: int = 0
-    valid_blocks: int = 0
     # payloads that are too long to be looked at, with the greatest length of these and the greatest that is looked at
     long_payloads: int = 0
     longest: int = 0
@@ -53,11 +51,8 @@ class Counts:
     unasked: int = 0
 
     def add(self, line: Line, holds: bool) -> None:
-        """Counts a line."""
-        if line.asked.is_block:
-            self.blocks += 1
-            self.valid_blocks += holds
-        else:
+        """Counts a line about a payload."""
+        if not line.asked.is_block:
             self.payloads += 1
             self.trusted_payloads += holds
 

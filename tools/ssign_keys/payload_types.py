@@ -25,7 +25,6 @@ NO_KEY = Type("N", "", has_blob=False)
 UNKNOWN = Type("U", "")
 # in the order in which a sentence lists them
 TYPES = {it.letter: it for it in (CERTIFICATE, OPENPGP, KEY, NO_KEY, UNKNOWN)}
-LETTERS = "".join(TYPES)
 # the letters as parts of a pattern: those with a key blob, and the one without
 WITH_BLOB = "".join(it.letter for it in TYPES.values() if it.has_blob)
 WITHOUT_BLOB = "".join(it.letter for it in TYPES.values() if not it.has_blob)
