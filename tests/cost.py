@@ -92,7 +92,7 @@ SHAPES = [
     (logs.kept_absent, 900, [KEPT], []),
     (logs.kept_equal, 6000, [KEPT], []),
     (logs.nights_of_sessions, 900, [NIGHT], []),
-    (logs.nights_of_groups, 768, [NIGHT], []),
+    (logs.nights_of_groups, 1536, [NIGHT], []),
     (logs.idle_nights, 900, [NIGHT], []),
     (logs.outside_of_the_night, 900, [NIGHT], []),
     (logs.apart, 900, [WHOLE], []),
