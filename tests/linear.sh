@@ -21,9 +21,26 @@ keys() {
     status=$?
 }
 
-# a program that counts: the octets of its questions, and the answers that it is given
-# shellcheck disable=SC2016
-printf '#!/usr/bin/env bash\nset -o pipefail\ncase $1 in\n    questions) %q "$@" | tee counted.questions ;;\n    *)\n        for it in "$@"; do\n            [[ $it != --answers=* ]] || cp -- "${it#--answers=}" counted.answers\n        done\n        exec %q "$@"\n        ;;\nesac\n' "$program" "$program" >counting
+# a program that counts: the octets of its questions, and those of the answers that it is given
+cat >counting <<'S'
+#!/usr/bin/env bash
+ask='' given='' words=()
+for it in "$@"; do
+    case $it in
+    --ask=*) ask=${it#*=} ;;
+    --answers=*) given=${it#*=} ;;
+    *) words+=("$it") ;;
+    esac
+done
+[[ $ask ]] || exec "$COUNTED" "$@"
+rm -f asked given
+mkfifo asked given
+"$COUNTED" "${words[@]}" --ask=asked --answers=given <&0 &
+tee counted.questions <asked >"$ask"
+tee counted.answers <"$given" >given
+wait $!
+S
+export COUNTED=$program
 chmod +x counting
 mkdir one bin
 keys make --ver 0121 one
