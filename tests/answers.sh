@@ -80,6 +80,8 @@ bad() {
 bad 'an empty line' ''
 bad 'another word' 'want S0VZ'
 bad 'a capital letter' 'Trust S0VZ'
+bad 'a question about a payload' 'trust? S0VZ'
+bad 'a question about a block' 'yes? S0VZ S0VZ AAAA'
 bad 'a field too few' 'yes S0VZ S0VZ'
 bad 'a field too many' 'trust S0VZ S0VZ'
 bad 'two spaces' 'trust  S0VZ'

@@ -16,8 +16,9 @@ import sys
 from datetime import datetime, timedelta, timezone
 from typing import Any, BinaryIO, Iterator, List
 
-NO_LINE = "line {} is no line of ssign questions --once, as those above it are"
-NO_QUESTION = "line {} is no line `trust PAYLOAD` or `yes PAYLOAD OCTETS SIGNATURE` of ssign questions"
+NO_LINE = ("line {} is no line `payload INDEX PAYLOAD`, `trust? INDEX` or `yes? INDEX OCTETS SIGNATURE` of ssign questions --once, "
+           "as those above it are")
+NO_QUESTION = "line {} is no line `trust? PAYLOAD` or `yes? PAYLOAD OCTETS SIGNATURE` of ssign questions"
 
 
 def once(lines: BinaryIO) -> Iterator[bytes]:
@@ -38,33 +39,35 @@ def wrong() -> Iterator[str]:
         ("another first index", "payload 1 S0VZ", "line 1: the payload has the index 1, and not 0"),
         ("an index twice", f"{first}|payload 0 S0VZ", "line 2: the payload has the index 0, and not 1"),
         ("an index left out", f"{first}|payload 2 S0VZ", "line 2: the payload has the index 2, and not 1"),
-        ("a payload that isn't there", f"{first}|trust 1", "line 2: no payload with the index 1 stands before it"),
-        ("a payload that comes later", f"{first}|yes 1 S0VZ AAAA|payload 1 S0VZ",
+        ("a payload that isn't there", f"{first}|trust? 1", "line 2: no payload with the index 1 stands before it"),
+        ("a payload that comes later", f"{first}|yes? 1 S0VZ AAAA|payload 1 S0VZ",
          "line 2: no payload with the index 1 stands before it"),
-        ("a great index", f"{first}|trust 9999999999", "line 2: no payload with the index 9999999999 stands before it"),
-        ("an index of too many digits", f"{first}|trust 99999999999", NO_LINE.format(2)),
-        ("an index of a million digits", f"{first}|trust " + "9" * 1000000, NO_LINE.format(2)),
-        ("a leading zero", f"{first}|trust 00", NO_LINE.format(2)),
-        ("a sign", f"{first}|trust -1", NO_LINE.format(2)),
-        ("another sign", f"{first}|trust +0", NO_LINE.format(2)),
-        ("another digit", f"{first}|trust ٠", NO_LINE.format(2)),
-        ("no index", f"{first}|trust ", NO_LINE.format(2)),
-        ("a space too many", f"{first}|trust  0", NO_LINE.format(2)),
-        ("a space at the end", f"{first}|trust 0 ", NO_LINE.format(2)),
-        ("a CR", f"{first}|trust 0\r", NO_LINE.format(2)),
-        ("a field too many", f"{first}|trust 0 S0VZ", NO_LINE.format(2)),
-        ("no octets", f"{first}|yes 0", NO_LINE.format(2)),
-        ("no signature", f"{first}|yes 0 S0VZ", NO_QUESTION.format(2)),
-        ("octets that are no base64", f"{first}|yes 0 S0V AAAA", NO_QUESTION.format(2)),
-        ("a signature that is no base64", f"{first}|yes 0 S0VZ AAA", NO_QUESTION.format(2)),
+        ("a great index", f"{first}|trust? 9999999999", "line 2: no payload with the index 9999999999 stands before it"),
+        ("an index of too many digits", f"{first}|trust? 99999999999", NO_LINE.format(2)),
+        ("an index of a million digits", f"{first}|trust? " + "9" * 1000000, NO_LINE.format(2)),
+        ("a leading zero", f"{first}|trust? 00", NO_LINE.format(2)),
+        ("a sign", f"{first}|trust? -1", NO_LINE.format(2)),
+        ("another sign", f"{first}|trust? +0", NO_LINE.format(2)),
+        ("another digit", f"{first}|trust? ٠", NO_LINE.format(2)),
+        ("no index", f"{first}|trust? ", NO_LINE.format(2)),
+        ("a space too many", f"{first}|trust?  0", NO_LINE.format(2)),
+        ("a space at the end", f"{first}|trust? 0 ", NO_LINE.format(2)),
+        ("a CR", f"{first}|trust? 0\r", NO_LINE.format(2)),
+        ("a field too many", f"{first}|trust? 0 S0VZ", NO_LINE.format(2)),
+        ("no octets", f"{first}|yes? 0", NO_LINE.format(2)),
+        ("no signature", f"{first}|yes? 0 S0VZ", NO_QUESTION.format(2)),
+        ("octets that are no base64", f"{first}|yes? 0 S0V AAAA", NO_QUESTION.format(2)),
+        ("a signature that is no base64", f"{first}|yes? 0 S0VZ AAA", NO_QUESTION.format(2)),
         ("a payload that is no base64", "payload 0 S0V", NO_QUESTION.format(1)),
         ("an empty payload", "payload 0 ", NO_QUESTION.format(1)),
         ("a payload without a text", "payload 0", NO_LINE.format(1)),
-        ("an empty line", f"{first}||trust 0", NO_LINE.format(2)),
-        ("a capital letter", f"{first}|Trust 0", NO_LINE.format(2)),
-        ("the other form", f"{first}|trust S0VZ", NO_LINE.format(2)),
-        ("the other form, of digits", f"{first}|trust 1234", "line 2: no payload with the index 1234 stands before it"),
-        ("this form after the other", f"trust S0VZ|{first}", NO_QUESTION.format(2)),
+        ("an empty line", f"{first}||trust? 0", NO_LINE.format(2)),
+        ("a capital letter", f"{first}|Trust? 0", NO_LINE.format(2)),
+        ("the other form", f"{first}|trust? S0VZ", NO_LINE.format(2)),
+        ("the other form, of digits", f"{first}|trust? 1234", "line 2: no payload with the index 1234 stands before it"),
+        ("this form after the other", f"trust? S0VZ|{first}", NO_QUESTION.format(2)),
+        ("the word of an answer", f"{first}|trust 0", NO_LINE.format(2)),
+        ("the word of an answer about a block", f"{first}|yes 0 S0VZ AAAA", NO_LINE.format(2)),
         ("JSON", '{"line":"payload","payload_index":0,"payload":"S0VZ"}', NO_QUESTION.format(1)),
     ):
         yield f"{what}\t{text}\t{said}"
@@ -73,10 +76,10 @@ def wrong() -> Iterator[str]:
 def long(octets: int, count: int) -> Iterator[bytes]:
     """A long payload, and questions about blocks."""
     yield b"payload 0 " + base64.b64encode(b"- U " + b"A" * (octets - 4)) + b"\n"
-    yield b"trust 0\n"
+    yield b"trust? 0\n"
     for number in range(count):
         block = b'<110>1 - h s - - [ssign VER="0121" RSID="1" SG="0" SPRI="0" GBC="%d" FMN="1" CNT="1" HB="x"]' % number
-        yield b"yes 0 " + base64.b64encode(block) + b" AAAA\n"
+        yield b"yes? 0 " + base64.b64encode(block) + b" AAAA\n"
 
 
 def stamps(path: str, count: int) -> Iterator[bytes]:
@@ -87,9 +90,9 @@ def stamps(path: str, count: int) -> Iterator[bytes]:
     for number in range(count):
         stamp = (first + timedelta(seconds=number)).strftime("%Y-%m-%dT%H:%M:%SZ").encode()
         yield b"payload %d " % number + base64.b64encode(stamp + b" C " + certificate) + b"\n"
-        yield b"trust %d\n" % number
+        yield b"trust? %d\n" % number
         block = b'<110>1 - gate s - - [ssign VER="0121" RSID="%d" SG="0" SPRI="0" GBC="0" FMN="1" CNT="1" HB="x"]' % number
-        yield b"yes %d " % number + base64.b64encode(block) + b" AAAA\n"
+        yield b"yes? %d " % number + base64.b64encode(block) + b" AAAA\n"
 
 
 def make_authority(public: str, folder: str) -> None:

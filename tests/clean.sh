@@ -1,7 +1,7 @@
 #!/usr/bin/env bash
 # What a clean report doesn't say: the logs of that section of docs/guide.md, each with the report on it, worked out by
-# hand. A signer who always gives three octets 0 signs them, and the questions about an untouched log are its answers:
-# that stands for a checker that says yes to each, which every real checker of these logs would do.
+# hand. A signer who always gives three octets 0 signs them, and each question about an untouched log is answered with
+# yes: that stands for a checker, because every real checker of these logs would do the same.
 #
 # All logs are lines here, so that the message at place N is line N + 1 of its file.
 # shellcheck source=tests/lib.sh
@@ -42,7 +42,7 @@ signed() {
 
 # accepted NAME..: answers that say yes to all of these logs as they were signed.
 accepted() {
-    (cd -- "$scratch" && cat -- "$@") | "$program" questions --lines >"$scratch/answers"
+    (cd -- "$scratch" && cat -- "$@") | "$program" questions --lines | answered >"$scratch/answers"
 }
 
 # places NAME PLACE..: the messages at these places of a log.
@@ -284,10 +284,13 @@ count gate signer - 7 1 14 5' < <(places groups 0 1 2 3 4 5 6 10 11 12)
 kept 'a group is taken out' 'count gate signer - 7 3
 count gate signer - 7 1 13 5' < <(places groups 0 1 3 4 7 8 9)
 
-# Questions that nobody checked let a forged log pass
+# Questions that nobody checked are no answers. Answers that nobody checked let a forged log pass
 message 13 forged1 forged2 | signed stranger gate 9 "$other_key"
 "$program" questions --lines <"$scratch/stranger" >"$scratch/answers"
-told 'questions taken for answers' 0 'session gate signer - 9 joined
+run review --lines --answers "$scratch/answers" <"$scratch/stranger"
+expect 'questions given as answers' 2 '' 'ssign: A1 1'
+accepted stranger
+told 'answers that nobody checked' 0 'session gate signer - 9 joined
 ok gate signer - 9 0 0 1 1
 ok gate signer - 9 0 0 2 2
 end 4' <"$scratch/stranger"

@@ -19,7 +19,7 @@ import tempfile
 
 import cost_logs as logs
 from report_objects import ABOUT, KEYS, OTHER_KEYS, fault_of, words_seen
-from review_runs import frame
+from review_runs import as_answers, frame
 
 PROGRAM = sys.argv[1]
 ROOT = os.path.dirname(os.path.dirname(os.path.abspath(__file__)))
@@ -122,7 +122,7 @@ def check_details(what, log, *options):
     places = {it["place"]: it for it in inspected if "place" in it and it["line"] != "damaged"}
     for words in (["--json"], ["--json", "--once"]):
         for asked in map(json.loads, run("questions", log, *words, *options)[1].splitlines()):
-            if asked["line"] == "yes":
+            if asked["line"] == "yes?":
                 told = {key: value for key, value in asked.items() if key not in (*ABOUT, "octets", "signature", "ver")}
                 block = base64.b64decode(asked["octets"])
                 fits = (places[asked["place"]] == {**told, "line": places[asked["place"]]["line"]}
@@ -155,7 +155,7 @@ def sign(folder, messages, *options):
     seals = [line.replace(b"want ", b"seal ", 1) + b" AAAA" for line in plan.stdout.splitlines()]
     signed = subprocess.run([PROGRAM, "sign", *answered(folder, seals), *given], input=log, capture_output=True, check=True)
     questions = subprocess.run([PROGRAM, "questions"], input=signed.stdout, capture_output=True, check=True)
-    return signed.stdout, questions.stdout.splitlines()
+    return signed.stdout, as_answers(questions.stdout).splitlines()
 
 
 def objects_by_hand():
@@ -181,13 +181,13 @@ def objects_by_hand():
     block = b'"octets":"%s","signature":"%s","place":%d,' + names + b',"ver":"0111","sg":0,"spri":0,'
     blocks = [block % (*certificate, 2) + b'"total":27,"index":1,"length":27}\n',
               block % (*signature, 3) + b'"gbc":0,"first":1,"count":2}\n']
-    front = b'{"line":"yes","payload":"%s",' % payload
-    wanted = b'{"line":"trust","payload":"%s",%s}\n' % (payload, names) + b"".join(front + it for it in blocks)
+    front = b'{"line":"yes?","payload":"%s",' % payload
+    wanted = b'{"line":"trust?","payload":"%s",%s}\n' % (payload, names) + b"".join(front + it for it in blocks)
     tell("by hand: questions", "" if (status, made) == (0, wanted) else repr(made))
     status, made = run("questions", log, "--json", "--once")
-    front = b'{"line":"yes","payload_index":0,'
+    front = b'{"line":"yes?","payload_index":0,'
     wanted = (b'{"line":"payload","payload_index":0,"payload":"%s"}\n' % payload
-              + b'{"line":"trust","payload_index":0,%s}\n' % names + b"".join(front + it for it in blocks))
+              + b'{"line":"trust?","payload_index":0,%s}\n' % names + b"".join(front + it for it in blocks))
     tell("by hand: questions --once", "" if (status, made) == (0, wanted) else repr(made))
     wanted = b'{"line":"count",%s,"gbc":1}\n{"line":"count",%s,"sg":0,"spri":0,"number":3}\n{"line":"end","count":2}\n' % (names, names)
     said = run("counters", log, "--json", "--answers", os.path.join(ROOT, "examples", "four-messages.answers"))

@@ -157,6 +157,16 @@ frame() {
     printf '%d %s' "${#1}" "$1"
 }
 
+# answered <QUESTIONS >ANSWERS: the answers file that says yes to each line of `ssign questions`, as if a checker had.
+answered() {
+    sed 's/^trust? /trust /; s/^yes? /yes /'
+}
+
+# unanswered <ANSWERS >QUESTIONS: the other way, the questions that these lines of an answers file answer.
+unanswered() {
+    sed 's/^trust /trust? /; s/^yes /yes? /'
+}
+
 # counters_of LINE..: prints a counters file of these lines, each of which follows `count `.
 counters_of() {
     [[ $# == 0 ]] || printf 'count %s\n' "$@"

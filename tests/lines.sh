@@ -91,9 +91,9 @@ expect 'a folder as standard input' 2 '' 'ssign: F3'
 
 # The questions are the same, and what is extracted is frames
 run questions --lines <"$log"
-expect 'the questions of lines' 0 "$(<"$root/examples/four-messages.answers")" ''
+expect 'the questions of lines' 0 "$(unanswered <"$root/examples/four-messages.answers")" ''
 run questions --lines < <(head -c -1 -- "$log")
-expect 'the questions of a torn log' 1 "$(head -n 2 -- "$root/examples/four-messages.answers")" ''
+expect 'the questions of a torn log' 1 "$(unanswered <"$root/examples/four-messages.answers" | head -n 2)" ''
 run extract --lines --answers "$root/examples/four-messages.answers" <"$log"
 holds 'an extract of lines' cmp -- "$scratch/out" <(head -c 64 -- "$root/examples/four-messages.frames")
 run extract --lines --answers "$root/examples/four-messages.answers" < <(head -c -1 -- "$log")

@@ -36,8 +36,8 @@ OTHER_KEYS = {
     "spoilt-count": [["count"]],
     "damaged-count": [["count", "octets"]],
     "payload": [["payload_index", "payload"]],
-    "trust": [[about, *SESSION] for about in ABOUT],
-    "yes": [[about, "octets", "signature", "place", *SESSION, "ver", "sg", "spri", *rest] for about in ABOUT
+    "trust?": [[about, *SESSION] for about in ABOUT],
+    "yes?": [[about, "octets", "signature", "place", *SESSION, "ver", "sg", "spri", *rest] for about in ABOUT
             for rest in (["gbc", "first", "count"], ["total", "index", "length"])],
     "count": [[*SESSION, "gbc"], [*GROUP, "number"]],
     "plain": [["place"]],
@@ -50,7 +50,7 @@ OTHER_KEYS.update({f"wrapped-{word}": keys for word, keys in [*OTHER_KEYS.items(
                    if word in ("plain", "unparsed", "signature", "certificate", "spoilt")})
 TEXTS = {"line", "host", "app", "procid", "state", "why", "cause", "part", "payload", "octets", "signature", "ver"}
 # how many of its values a plain question has, the word among them
-PLAIN = {"trust": 2, "yes": 4}
+PLAIN = {"trust?": 2, "yes?": 4}
 
 # the words of the lines that were read
 words_seen = set()

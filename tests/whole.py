@@ -25,7 +25,7 @@ from review_examples import (
     certificate, h, signature)
 from review_logs import LAST
 from review_model import Log, kept, review, state
-from review_runs import answers_text, answers_to, frame, is_clean, joined, line, read_frames, read_lines, report_text
+from review_runs import answers_text, answers_to, as_answers, frame, is_clean, joined, line, read_frames, read_lines, report_text
 
 SEEDS = 2_000
 # how many differences are shown
@@ -244,7 +244,7 @@ class Program:
         log = b"".join(map(frame, messages))
         seals = [it.replace(b"want ", b"seal ", 1) + b" AAAA\n" for it in self.run(["plan", *given], log)[1].splitlines()]
         signed = self.run(["sign", *self.put_answers(b"".join(seals)), *given], log)[1]
-        return signed, self.run(["questions"], signed)[1]
+        return signed, as_answers(self.run(["questions"], signed)[1])
 
 
 def fault_of_form(words, said, wanted, status):

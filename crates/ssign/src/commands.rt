@@ -55,8 +55,8 @@ pub const REVIEW: CommandRow = CommandRow {
 /// `ssign questions`: the questions of a review to a signature scheme.
 pub const QUESTIONS: CommandRow = CommandRow {
     name: "questions",
-    about: "Writes lines that are questions: used as answers unchecked, they make any forged log pass. A signature \
-        checker leaves out each line that it can't confirm; the rest are answers",
+    about: "Writes lines that are questions. A signature checker answers each that it can confirm, by the same line \
+        without the question mark; answers that nobody checked make any forged log pass",
     note: Note::Usage("ssign questions [OPTIONS] < FILE"),
     options: &[JSON, ONCE, PINNED, SALVAGE],
     shared: &READING,

@@ -14,31 +14,31 @@ use test_devices::{Paper, Pieces};
 pub const REPORT: &[u8] =
     b"session h s - 1 joined\nok h s - 1 0 0 1 0\nok h s - 1 0 0 2 1\nend 4\n";
 
-/// What is asked about it, 509 octets.
+/// What is asked about it, 512 octets.
 pub const QUESTIONS: &[u8] =
-    b"trust MjAwOS0wNS0wM1QxNDowMDozOVogSyBTMFZa\nyes MjAwOS0wNS0wM1QxNDowMDozOVogSyBTMFZa \
+    b"trust? MjAwOS0wNS0wM1QxNDowMDozOVogSyBTMFZa\nyes? MjAwOS0wNS0wM1QxNDowMDozOVogSyBTMFZa \
         PDExMD4xIC0gaCBzIC0gLSBbc3NpZ24tY2VydCBWRVI9IjAxMTEiIFJTSUQ9IjEiIFNHPSIwIiBTUFJJPSIwIiBUUEJMPSIyNyIgSU5ERVg9IjE\
-        iIEZMRU49IjI3IiBGUkFHPSIyMDA5LTA1LTAzVDE0OjAwOjM5WiBLIFMwVloiXQ== AAAA\nyes \
+        iIEZMRU49IjI3IiBGUkFHPSIyMDA5LTA1LTAzVDE0OjAwOjM5WiBLIFMwVloiXQ== AAAA\nyes? \
         MjAwOS0wNS0wM1QxNDowMDozOVogSyBTMFZa PDExMD4xIC0gaCBzIC0gLSBbc3NpZ24gVkVSPSIwMTExIiBSU0lEPSIxIiBTRz0iMCIgU1BSST\
         0iMCIgR0JDPSIwIiBGTU49IjEiIENOVD0iMiIgSEI9InFaaytOa2NHZ1dxNlBpVnhlRkRDYkp6UTJKMD0gaEpnK1JCdzcwbTY2cmtxaCtWRXA1Z\
         VZHY1BFPSJd AAAA\n";
 
 /// The same with the payload once.
 pub const QUESTIONS_ONCE: &[u8] =
-    b"payload 0 MjAwOS0wNS0wM1QxNDowMDozOVogSyBTMFZa\ntrust 0\nyes 0 PDExMD4xIC0gaCBzIC0gLSBbc3NpZ24tY2VydCBWRVI9IjAxM\
+    b"payload 0 MjAwOS0wNS0wM1QxNDowMDozOVogSyBTMFZa\ntrust? 0\nyes? 0 PDExMD4xIC0gaCBzIC0gLSBbc3NpZ24tY2VydCBWRVI9IjAxM\
         TEiIFJTSUQ9IjEiIFNHPSIwIiBTUFJJPSIwIiBUUEJMPSIyNyIgSU5ERVg9IjEiIEZMRU49IjI3IiBGUkFHPSIyMDA5LTA1LTAzVDE0OjAwOjM\
-        5WiBLIFMwVloiXQ== AAAA\nyes 0 PDExMD4xIC0gaCBzIC0gLSBbc3NpZ24gVkVSPSIwMTExIiBSU0lEPSIxIiBTRz0iMCIgU1BSST0iMCIg\
+        5WiBLIFMwVloiXQ== AAAA\nyes? 0 PDExMD4xIC0gaCBzIC0gLSBbc3NpZ24gVkVSPSIwMTExIiBSU0lEPSIxIiBTRz0iMCIgU1BSST0iMCIg\
         R0JDPSIwIiBGTU49IjEiIENOVD0iMiIgSEI9InFaaytOa2NHZ1dxNlBpVnhlRkRDYkp6UTJKMD0gaEpnK1JCdzcwbTY2cmtxaCtWRXA1ZVZHY1\
         BFPSJd AAAA\n";
 
 /// The same as JSON.
 const QUESTIONS_ONCE_JSON: &[u8] =
     b"{\"line\":\"payload\",\"payload_index\":0,\"payload\":\"MjAwOS0wNS0wM1QxNDowMDozOVogSyBTMFZa\"}\n\
-        {\"line\":\"trust\",\"payload_index\":0,\"host\":\"h\",\"app\":\"s\",\"procid\":\"-\",\"rsid\":1}\n\
-        {\"line\":\"yes\",\"payload_index\":0,\"octets\":\"PDExMD4xIC0gaCBzIC0gLSBbc3NpZ24tY2VydCBWRVI9IjAxMTEiIFJTSUQ\
+        {\"line\":\"trust?\",\"payload_index\":0,\"host\":\"h\",\"app\":\"s\",\"procid\":\"-\",\"rsid\":1}\n\
+        {\"line\":\"yes?\",\"payload_index\":0,\"octets\":\"PDExMD4xIC0gaCBzIC0gLSBbc3NpZ24tY2VydCBWRVI9IjAxMTEiIFJTSUQ\
         9IjEiIFNHPSIwIiBTUFJJPSIwIiBUUEJMPSIyNyIgSU5ERVg9IjEiIEZMRU49IjI3IiBGUkFHPSIyMDA5LTA1LTAzVDE0OjAwOjM5WiBLIFMwV\
         loiXQ==\",\"signature\":\"AAAA\",\"place\":2,\"host\":\"h\",\"app\":\"s\",\"procid\":\"-\",\"rsid\":1,\
-        \"ver\":\"0111\",\"sg\":0,\"spri\":0,\"total\":27,\"index\":1,\"length\":27}\n{\"line\":\"yes\",\
+        \"ver\":\"0111\",\"sg\":0,\"spri\":0,\"total\":27,\"index\":1,\"length\":27}\n{\"line\":\"yes?\",\
         \"payload_index\":0,\"octets\":\"PDExMD4xIC0gaCBzIC0gLSBbc3NpZ24gVkVSPSIwMTExIiBSU0lEPSIxIiBTRz0iMCIgU1BSST0iM\
         CIgR0JDPSIwIiBGTU49IjEiIENOVD0iMiIgSEI9InFaaytOa2NHZ1dxNlBpVnhlRkRDYkp6UTJKMD0gaEpnK1JCdzcwbTY2cmtxaCtWRXA1ZVZ\
         HY1BFPSJd\",\"signature\":\"AAAA\",\"place\":3,\"host\":\"h\",\"app\":\"s\",\"procid\":\"-\",\"rsid\":1,\
@@ -46,8 +46,8 @@ const QUESTIONS_ONCE_JSON: &[u8] =
 
 /// What is asked about a certificate block alone, as JSON.
 const QUESTIONS_JSON: &[u8] =
-    b"{\"line\":\"trust\",\"payload\":\"MjAwOS0wNS0wM1QxNDowMDozOVogSyBTMFZa\",\"host\":\"h\",\"app\":\"s\",\
-        \"procid\":\"-\",\"rsid\":1}\n{\"line\":\"yes\",\"payload\":\"MjAwOS0wNS0wM1QxNDowMDozOVogSyBTMFZa\",\"octets\
+    b"{\"line\":\"trust?\",\"payload\":\"MjAwOS0wNS0wM1QxNDowMDozOVogSyBTMFZa\",\"host\":\"h\",\"app\":\"s\",\
+        \"procid\":\"-\",\"rsid\":1}\n{\"line\":\"yes?\",\"payload\":\"MjAwOS0wNS0wM1QxNDowMDozOVogSyBTMFZa\",\"octets\
         \":\"PDExMD4xIC0gaCBzIC0gLSBbc3NpZ24tY2VydCBWRVI9IjAxMTEiIFJTSUQ9IjEiIFNHPSIwIiBTUFJJPSIwIiBUUEJMPSIyNyIgSU5ER\
         Vg9IjEiIEZMRU49IjI3IiBGUkFHPSIyMDA5LTA1LTAzVDE0OjAwOjM5WiBLIFMwVloiXQ==\",\"signature\":\"AAAA\",\"place\":0,\
         \"host\":\"h\",\"app\":\"s\",\"procid\":\"-\",\"rsid\":1,\"ver\":\"0111\",\"sg\":0,\"spri\":0,\"total\":27,\
@@ -55,17 +55,17 @@ const QUESTIONS_JSON: &[u8] =
 
 /// What is asked about two sessions with one payload, which is written once.
 const ONE_PAYLOAD: &[u8] =
-    b"payload 0 MjAwOS0wNS0wM1QxNDowMDozOVogSyBTMFZa\ntrust 0\nyes 0 PDExMD4xIC0gaCBzIC0gLSBbc3NpZ24tY2VydCBWRVI9IjAxM\
+    b"payload 0 MjAwOS0wNS0wM1QxNDowMDozOVogSyBTMFZa\ntrust? 0\nyes? 0 PDExMD4xIC0gaCBzIC0gLSBbc3NpZ24tY2VydCBWRVI9IjAxM\
         TEiIFJTSUQ9IjEiIFNHPSIwIiBTUFJJPSIwIiBUUEJMPSIyNyIgSU5ERVg9IjEiIEZMRU49IjI3IiBGUkFHPSIyMDA5LTA1LTAzVDE0OjAwOjM\
-        5WiBLIFMwVloiXQ== AAAA\ntrust 0\nyes 0 PDExMD4xIC0gaCBzIC0gLSBbc3NpZ24tY2VydCBWRVI9IjAxMTEiIFJTSUQ9IjIiIFNHPSI\
+        5WiBLIFMwVloiXQ== AAAA\ntrust? 0\nyes? 0 PDExMD4xIC0gaCBzIC0gLSBbc3NpZ24tY2VydCBWRVI9IjAxMTEiIFJTSUQ9IjIiIFNHPSI\
         wIiBTUFJJPSIwIiBUUEJMPSIyNyIgSU5ERVg9IjEiIEZMRU49IjI3IiBGUkFHPSIyMDA5LTA1LTAzVDE0OjAwOjM5WiBLIFMwVloiXQ== AAAA\
         \n";
 
 /// What is asked about two sessions with two payloads, each of which is written once.
 const TWO_PAYLOADS: &[u8] =
-    b"payload 0 MjAwOS0wNS0wM1QxNDowMDozOVogSyBTMFZa\ntrust 0\nyes 0 PDExMD4xIC0gaCBzIC0gLSBbc3NpZ24tY2VydCBWRVI9IjAxM\
+    b"payload 0 MjAwOS0wNS0wM1QxNDowMDozOVogSyBTMFZa\ntrust? 0\nyes? 0 PDExMD4xIC0gaCBzIC0gLSBbc3NpZ24tY2VydCBWRVI9IjAxM\
         TEiIFJTSUQ9IjEiIFNHPSIwIiBTUFJJPSIwIiBUUEJMPSIyNyIgSU5ERVg9IjEiIEZMRU49IjI3IiBGUkFHPSIyMDA5LTA1LTAzVDE0OjAwOjM\
-        5WiBLIFMwVloiXQ== AAAA\npayload 1 MjAwOS0wNS0wM1QxNDowMDo0MFogSyBTMFZa\ntrust 1\nyes 1 PDExMD4xIC0gaSBzIC0gLSB\
+        5WiBLIFMwVloiXQ== AAAA\npayload 1 MjAwOS0wNS0wM1QxNDowMDo0MFogSyBTMFZa\ntrust? 1\nyes? 1 PDExMD4xIC0gaSBzIC0gLSB\
         bc3NpZ24tY2VydCBWRVI9IjAxMTEiIFJTSUQ9IjEiIFNHPSIwIiBTUFJJPSIwIiBUUEJMPSIyNyIgSU5ERVg9IjEiIEZMRU49IjI3IiBGUkFHP\
         SIyMDA5LTA1LTAzVDE0OjAwOjQwWiBLIFMwVloiXQ== AAAA\n";
 

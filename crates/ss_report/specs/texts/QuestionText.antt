@@ -1,5 +1,5 @@
 -- The text of the questions to a signature scheme: a line for each, a record whose fields are octets in strict base64.
--- A plain line to which the scheme says yes is a line of an answers file. A JSON object (RFC 8259) has these fields,
+-- A plain line to which the scheme says yes is one of an answers file without the question mark. A JSON object (RFC 8259) has these fields,
 -- and then those of what the question is about.
 use Rattle.std.specs.Prelude.{ℕ, List, ◌++◌, codes, flat_map}
 use Rattle.ss_octets.specs.StrictBase64.{base64}
@@ -13,10 +13,10 @@ use Rattle.ss_report.specs.texts.Asked.{AskTrust, AskYes, Asking, askings, block
 use Rattle.ss_report.specs.declared.notation.Notation.{Notation}
 use Rattle.ss_report.specs.declared.notation.Notation.TheVariants.{Plain}
 
--- trust PAYLOAD, or yes PAYLOAD OCTETS SIGNATURE
+-- trust? PAYLOAD, or yes? PAYLOAD OCTETS SIGNATURE: no line of an answers file begins so
 abbrev pub question_kind : Question → List ℕ
-question_kind (question.Trust payload) = codes "trust"
-question_kind (question.Yes payload octets signature) = codes "yes"
+question_kind (question.Trust payload) = codes "trust?"
+question_kind (question.Yes payload octets signature) = codes "yes?"
 
 abbrev pub question_fields : Question → List (List ℕ × Value)
 question_fields (question.Trust payload) = field (codes "payload") (Word (base64 payload))

@@ -39,11 +39,11 @@ once_lines xs = flat_map marked_lines (zip (marks (map payload_of xs)) xs)
 
 -- ---- how a line is written
 
--- payload INDEX PAYLOAD, trust INDEX, or yes INDEX OCTETS SIGNATURE, with octets in strict base64
+-- payload INDEX PAYLOAD, trust? INDEX, or yes? INDEX OCTETS SIGNATURE, with octets in strict base64
 abbrev pub once_kind : OnceLine → List ℕ
 once_kind (PayloadLine index payload) = codes "payload"
-once_kind (TrustLine index s) = codes "trust"
-once_kind (YesLine index s b) = codes "yes"
+once_kind (TrustLine index s) = codes "trust?"
+once_kind (YesLine index s b) = codes "yes?"
 
 abbrev pub once_fields : Notation → OnceLine → List (List ℕ × Value)
 once_fields notation (PayloadLine index payload) =

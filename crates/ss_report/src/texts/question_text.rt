@@ -57,7 +57,7 @@ fn write_trust<W: Write>(writer: &mut Watched<W>, session: &AskedSession, notati
         (asking_text notation (AskTrust session.now)) }
 {
     let payload = session.payload.as_slice();
-    begin(writer, notation, b"trust");
+    begin(writer, notation, b"trust?");
     put(writer, notation, b"payload", Value::Base64(payload));
     put_about_session(writer, notation, &session.session);
     end(writer, notation);
@@ -76,7 +76,7 @@ fn write_yes<W: Write>(
     let payload = session.payload.as_slice();
     let octets = block.octets.as_slice();
     let signature = block.signature.as_slice();
-    begin(writer, notation, b"yes");
+    begin(writer, notation, b"yes?");
     put(writer, notation, b"payload", Value::Base64(payload));
     put(writer, notation, b"octets", Value::Base64(octets));
     put(writer, notation, b"signature", Value::Base64(signature));

@@ -80,7 +80,7 @@ fn write_trust<W: Write>(writer: &mut Watched<W>, index: u64, session: &Session,
     ensures { Writes (sink_of W.contents writer.old) (sink_of W.contents writer.new)
         (once_line notation (TrustLine index session.now)) }
 {
-    begin(writer, notation, b"trust");
+    begin(writer, notation, b"trust?");
     put(writer, notation, b"payload_index", Value::Number(index));
     put_about_session(writer, notation, session);
     end(writer, notation);
@@ -114,7 +114,7 @@ fn write_yes<W: Write>(
 {
     let octets = block.octets.as_slice();
     let signature = block.signature.as_slice();
-    begin(writer, notation, b"yes");
+    begin(writer, notation, b"yes?");
     put(writer, notation, b"payload_index", Value::Number(index));
     put(writer, notation, b"octets", Value::Base64(octets));
     put(writer, notation, b"signature", Value::Base64(signature));

@@ -42,8 +42,8 @@ pub static REFUSALS: [Explanation; 33] = [
         code: "A1",
         text: "A1 LINE: this line of the answers file has none of the forms trust PAYLOAD, yes PAYLOAD OCTETS \
             SIGNATURE and seal OCTETS SIGNATURE. One space stands between two fields, and each field but the first is \
-            base64. An empty line is wrong too, and so is a CR at the end of a line. Only the first such line is \
-            named: mend it.",
+            base64. An empty line is wrong too, and so is a CR at the end of a line. A line with trust? or yes? is a \
+            question, which nobody has answered. Only the first such line is named: mend it.",
     },
     Explanation {
         code: "A2",

@@ -34,8 +34,8 @@ pub static WORDS: [Explanation; 22] = [
         code: "untrusted",
         text: "The answers file has no trust line for this session's key, so its blocks are unverified. Without \
             --answers no key is trusted. If you know by another way that this is the originator's key, put its trust \
-            line into the answers file. ssign questions prints that line. With ssign-keys verify, give the key with \
-            --key.",
+            line into the answers file: ssign questions prints it with a question mark after trust. With ssign-keys \
+            verify, give the key with --key.",
     },
     Explanation {
         code: "unaccepted",
@@ -128,21 +128,21 @@ pub static WORDS: [Explanation; 22] = [
     },
     Explanation {
         code: "payload",
-        text: "Only ssign questions --once writes this line: a number, and a payload in base64. In the trust and yes \
-            lines below it this number stands for the payload. An answers file has the payload itself, so these lines \
-            are no answers.",
+        text: "Only ssign questions --once and ssign review --ask write this line: a number, and a payload in base64. In \
+            the trust? and yes? lines below it this number stands for the payload. An answers file has the payload \
+            itself.",
     },
     Explanation {
-        code: "trust",
-        text: "A trust line that ssign questions prints is a question and no answer, until a checker has kept it. In \
-            an answers file it says that this payload, in base64, states the originator's key. Whoever can change the \
-            log can put another key into it. So keep the line only if you know by another way that this is the \
-            originator's key. ssign-keys answer compares it with the key that you give.",
+        code: "trust?",
+        text: "A question: does this payload, in base64, state the originator's key? The answer is the same line in an \
+            answers file, with trust in place of trust?. Whoever can change the log can put another key into it. So \
+            write the answer only if you know by another way that this is the originator's key. ssign-keys answer \
+            compares it with the key that you give.",
     },
     Explanation {
-        code: "yes",
-        text: "A yes line that ssign questions prints is a question and no answer, until a checker has kept it. In an \
-            answers file it says that the signature is valid for these octets, under the key of this payload. \
-            Unchecked lines make any forged log pass. ssign-keys answer checks each one, and keeps those that hold.",
+        code: "yes?",
+        text: "A question: is this signature valid for these octets, under the key of this payload? The answer is the \
+            same line in an answers file, with yes in place of yes?. Answers that nobody checked make any forged log \
+            pass. ssign-keys answer checks each question, and answers those that hold.",
     },
 ];
