@@ -1,0 +1,257 @@
+"""What lies in a folder: signed files with their links, the newest of them, and logs."""
+from __future__ import annotations
+
+import contextlib
+import errno
+import fcntl
+import fnmatch
+import os
+import stat
+from dataclasses import dataclass, field
+from typing import Dict, Iterator, List, NamedTuple, Optional, Sequence, Set
+
+from ..faults import Fault
+from ..files import reason
+from ..store import open_folder
+from ..words import shown_name
+from ..workplace import Workplace
+from .link import Link, Log
+from .reading import PACKED, First, bare, digests, first_of, open_in, plain_pieces
+
+FRAMES, ASIDE, NEW = ".frames", ".set-aside", ".new"
+MATCH = ("*.log*",)
+# what stands between a name and what logrotate adds to it
+BETWEEN = "-._"
+# how many files a sentence names
+NAMED = 5
+
+
+class Busy(Exception):
+    """Another run works in the folder."""
+
+
+class Signed(NamedTuple):
+    """A signed file."""
+
+    name: str
+    first: First
+
+    @property
+    def link(self) -> Link:
+        """What its first message says."""
+        return self.first.link
+
+
+class Whole(NamedTuple):
+    """So many first octets of a log, and their SHA-256."""
+
+    end: int
+    sha256: str
+
+
+@dataclass
+class Known:
+    """What the links of a folder say about logs."""
+
+    last: Dict[str, Log] = field(default_factory=dict)
+    """The last part that was signed of the log of a name."""
+    names: Dict[Whole, Set[str]] = field(default_factory=dict)
+    """Under which names such octets were signed."""
+    parts: Dict[str, int] = field(default_factory=dict)
+    """How many files a log of a name has."""
+    fronts: Dict[Whole, Whole] = field(default_factory=dict)
+    """Which octets late lines were added to."""
+    unread: Set[str] = field(default_factory=set)
+    """The names of logs with a signed file in which no link can be read."""
+
+    def add(self, log: Optional[Log]) -> None:
+        """Takes in what a link says. The links have to come in the order of their sessions."""
+        if log is None:
+            return
+        whole = Whole(log.end, log.sha256)
+        front = next((it for it in self.candidates(log.name) if it.end == log.start), None)
+        if front is not None and 0 < log.start < log.end:
+            self.fronts.setdefault(whole, Whole(front.end, front.sha256))
+        self.last[log.name] = log
+        self.names.setdefault(whole, set()).add(log.name)
+        self.parts[log.name] = self.parts.get(log.name, 0) + 1
+
+    def candidates(self, name: str) -> List[Log]:
+        """The parts that may stand at the front of a log: the last one of its name, and of each name that it may have had."""
+        root, extension = os.path.splitext(name)
+        fronts = [name[:it] for it in range(1, len(name)) if name[it] in BETWEEN]
+        names = [name, *fronts, *(it + extension for it in fronts if len(it) < len(root))]
+        return [self.last[it] for it in dict.fromkeys(names) if it in self.last and self.last[it].end > 0]
+
+    def all_fronts(self, whole: Whole) -> Iterator[Whole]:
+        """Signed octets, and those at the front of them."""
+        found: Optional[Whole] = whole
+        while found is not None:
+            yield found
+            found = self.fronts.get(found)
+
+
+class Folder:
+    """A folder that no other run of this kind works in. Used with `with`."""
+
+    def __init__(self, path: str) -> None:
+        """Not locked yet."""
+        self.name = shown_name(path)
+        self._path = path
+
+    def __enter__(self) -> Folder:
+        """Locks it. Raises Busy where another run has it."""
+        try:
+            self.number = open_folder(self._path)
+        except OSError as fault:
+            raise Fault(f"the folder {self.name} can't be opened: {reason(fault)}") from fault
+        try:
+            fcntl.flock(self.number, fcntl.LOCK_EX | fcntl.LOCK_NB)
+            if not os.access(self._path, os.W_OK | os.X_OK):
+                raise Fault(f"the folder {self.name} can't be written to: {os.strerror(errno.EACCES)}")
+        except (Fault, OSError) as fault:
+            os.close(self.number)
+            if isinstance(fault, BlockingIOError):
+                raise Busy from fault
+            why = str(fault) if isinstance(fault, Fault) else f"the folder {self.name} can't be locked: {reason(fault)}"
+            raise Fault(why) from fault
+        return self
+
+    def __exit__(self, *why: object) -> None:
+        """Lets it go."""
+        os.close(self.number)
+
+    def read(self) -> None:
+        """Reads which files are there."""
+        self.entries: Dict[str, os.stat_result] = {}
+        with os.scandir(self.number) as found:
+            for it in found:
+                # logrotate may rename it meanwhile
+                with contextlib.suppress(FileNotFoundError):
+                    self.entries[it.name] = it.stat(follow_symlinks=False)
+
+    def stat(self, name: str) -> Optional[os.stat_result]:
+        """A file as it is now; None where it is gone."""
+        try:
+            return os.stat(name, dir_fd=self.number, follow_symlinks=False)
+        except FileNotFoundError:
+            return None
+
+    def remove(self, name: str) -> None:
+        """Removes a file, if it is there."""
+        with contextlib.suppress(FileNotFoundError):
+            os.unlink(name, dir_fd=self.number)
+
+    def has_signed(self, name: str) -> bool:
+        """Whether a signed file has a name, compressed or not."""
+        return any(self.stat(name + it) is not None for it in ("", *PACKED))
+
+    def drafts(self) -> List[str]:
+        """Passing files, which a run before left."""
+        return sorted(it for it in self.entries if it.startswith(".") and it.endswith(NEW))
+
+    def frames(self) -> List[str]:
+        """The names of signed files."""
+        return sorted(it for it in self.entries if bare(it).endswith(FRAMES) and not it.startswith("."))
+
+    def logs(self, globs: Sequence[str]) -> List[str]:
+        """The names of logs, the one first that was changed first. A folder is none."""
+        found = [it for it, seen in self.entries.items() if is_log(it, globs) and not stat.S_ISDIR(seen.st_mode)]
+        return sorted(found, key=lambda it: (self.entries[it].st_mtime_ns, it))
+
+
+def is_log(name: str, globs: Sequence[str]) -> bool:
+    """Whether a file of this name is a log that is to be signed."""
+    if name.startswith(".") or name.endswith(NEW) or bare(name).endswith((FRAMES, ASIDE)):
+        return False
+    return any(fnmatch.fnmatchcase(it, glob) for it in (name, bare(name)) for glob in globs)
+
+
+class Chain:
+    """The signed files of a folder, as their links say how they hang together."""
+
+    def __init__(self, folder: Folder, workplace: Workplace) -> None:
+        """Reads the first message of each."""
+        self._folder = folder
+        self._workplace = workplace
+        self.known = Known()
+        self.files: List[Signed] = []
+        self.unlinked: List[str] = []
+        for name in folder.frames():
+            first = first_of(folder.number, name, workplace)
+            if first is None:
+                self.unlinked.append(name)
+                self.known.unread.add(bare(name)[:-len(FRAMES)])
+            else:
+                self.files.append(Signed(name, first))
+        self.files.sort(key=lambda it: (it.link.rsid, it.name))
+        for it in self.files:
+            self.known.add(it.link.log)
+
+    @property
+    def last_rsid(self) -> int:
+        """The greatest RSID; -1 where there is no signed file."""
+        return self.files[-1].link.rsid if self.files else -1
+
+    def take(self, signed: Signed) -> None:
+        """Takes in a file that goes on after all others."""
+        self.files.append(signed)
+        self.known.add(signed.link.log)
+
+    def newest(self) -> Optional[Signed]:
+        """The file that no other names as the one before. A chain that begins later ends each earlier one.
+
+        Raises Fault where it isn't known.
+        """
+        begins = max((it.link.rsid for it in self.files if it.link.before is None), default=0)
+        present = [it for it in self.files if it.link.rsid >= begins]
+        followed = {it.link.before.name for it in present if it.link.before is not None}
+        # who compresses a file has two of its name meanwhile
+        followed.update(bare(it.name) for it in self.files)
+        unlinked = [it for it in self.unlinked if bare(it) not in followed]
+        if unlinked:
+            raise Fault(f"{names_of(unlinked)} in {self._folder.name}: no link can be read in it, and no file names it as the "
+                        "one before, so nobody knows whether it is the newest: put a good copy in its place, or move it into "
+                        "another folder")
+        ends = self._unnamed(present)
+        if len(ends) > 1:
+            heads = " or ".join(shown_name(it.name) for it in ends[:NAMED])
+            raise Fault(f"the chain of {self._folder.name} forks: no file names {heads} as the one before, as where a machine "
+                        "was put back, or two of them sign with one key. Move the one into another folder that should not be "
+                        "there; or --begin begins a chain after both")
+        if present and not ends:
+            raise Fault(f"the signed files of {self._folder.name} name one another in a circle: put good copies in their place")
+        return ends[0] if ends else None
+
+    def _unnamed(self, files: Sequence[Signed]) -> List[Signed]:
+        """The files that no other names as the one before; of files with the same octets, one."""
+        named: Dict[int, Set[str]] = {}
+        for it in files:
+            if it.link.before is not None:
+                named.setdefault(it.link.before.rsid, set()).add(it.link.before.sha256)
+        by_rsid: Dict[int, Dict[str, Signed]] = {}
+        for it in files:
+            by_rsid.setdefault(it.link.rsid, {}).setdefault(bare(it.name), it)
+        found: List[Signed] = []
+        for rsid, alike in by_rsid.items():
+            if len(alike) > 1:
+                found += self._different(list(alike.values()), named.get(rsid, set()))
+            elif rsid not in named:
+                found += alike.values()
+        return found
+
+    def _different(self, alike: Sequence[Signed], named: Set[str]) -> List[Signed]:
+        """Of files with one RSID, those of other octets than the files that are named; of the same octets, one."""
+        found = {self.sha256(it.name): it for it in alike}
+        return [it for sha256, it in found.items() if sha256 not in named]
+
+    def sha256(self, name: str) -> str:
+        """The SHA-256 of a signed file, expanded."""
+        with open_in(self._folder.number, name) as file:
+            return digests(plain_pieces(file, name, self._workplace)).sha256
+
+
+def names_of(names: Sequence[str]) -> str:
+    """Some names, for a sentence."""
+    more = f" and {len(names) - NAMED} more" if len(names) > NAMED else ""
+    return ", ".join(shown_name(it) for it in names[:NAMED]) + more
