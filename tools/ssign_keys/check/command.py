@@ -1,0 +1,168 @@
+"""`ssign-keys check`: one check for one night, and for an archive of years on many machines."""
+from __future__ import annotations
+
+import argparse
+import os
+from typing import Dict, List, Set, Tuple
+
+from ..faults import Fault
+from ..output import write_out
+from ..progress import Progress
+from ..words import shown_name
+from ..workplace import Workplace
+from . import options as check_options
+from .accept import accept, is_held, lapses
+from .files import Reader, find_folders
+from .findings import Finding, few, find
+from .keys import Judges, make_judges
+from .memory import Memory, file_place, now
+from .options import Options, read_options
+from .originator import Originator
+from .record import digest
+from .report import Report
+from .status import read_status, write_status
+from .verdicts import Pool, Work
+
+# so many verdicts are made at most before they stand on the disk: a first check of years may be stopped
+MOST_UNSAVED = 50
+
+
+def add_arguments(parser: argparse.ArgumentParser) -> None:
+    """Says which words the command takes."""
+    check_options.add_arguments(parser)
+
+
+def run(arguments: argparse.Namespace) -> int:
+    """Checks everything. Status 1 where a finding isn't accepted."""
+    options = read_options(arguments)
+    judges = make_judges(options.keys, options.program)
+    folders = find_folders(options.folders)
+    progress = Progress()
+    try:
+        with Workplace() as workplace:
+            refuse_places(folders, options)
+            memory = Memory(options.memory, options.is_begun)
+            refuse_unknown(folders, memory)
+            report = Check(options, judges, memory, workplace, progress).run(folders)
+        progress.clear()
+        text = report.json() if options.is_json else report.text(options.shows_head)
+        write_out([text.encode("utf-8", "backslashreplace")])
+        return report.status
+    finally:
+        progress.clear()
+
+
+def refuse_places(folders: Dict[str, str], options: Options) -> None:
+    """Refuses a memory among the logs, which would be an originator, and a status file that can't be written."""
+    if os.path.realpath(options.memory) in {os.path.realpath(it) for it in folders.values()}:
+        raise Fault(f"the memory {shown_name(options.memory)} lies among the folders of originators: keep it elsewhere")
+    if options.status is not None and not os.path.isdir(os.path.dirname(options.status) or "."):
+        raise Fault(f"the status file {shown_name(options.status)} can't be written: there is no such folder")
+
+
+def refuse_unknown(folders: Dict[str, str], memory: Memory) -> None:
+    """Refuses a folder that isn't there, and of which no check knows."""
+    known = set(memory.recorded())
+    for name, path in folders.items():
+        if name not in known and not os.path.isdir(path):
+            raise Fault(f"there is no folder {shown_name(path)}: name that of an originator, or one that holds such folders")
+
+
+class Check:
+    """A check, from what is read to what is kept."""
+
+    def __init__(self, options: Options, judges: Judges, memory: Memory, workplace: Workplace, progress: Progress) -> None:
+        self._options = options
+        self._judges = judges
+        self._memory = memory
+        self._workplace = workplace
+        self._progress = progress
+        self._now = now()
+
+    def run(self, folders: Dict[str, str]) -> Report:
+        """All of it. What was found stands in the memory afterwards, and in the status file."""
+        memory, options = self._memory, self._options
+        status = None if options.status is None else read_status(options.status)
+        found = memory.faults(None if status is None else status["memory"], options.status)
+        if options.accept:
+            accept(memory, options.accept, options.why, self._now)
+        doubted = {it.place for it in found if it.kind == "edited" and not is_held(memory.accepted)(it)}
+        originators = [Originator(name, path, memory.record(name), options, self._now, memory.count, file_place(name) in doubted)
+                       for name, path in sorted(folders.items())]
+        reader = Reader(self._workplace, self._progress, options.keys.max_expanded)
+        self._verify(originators, reader)
+        for it in originators:
+            it.judge(reader)
+        self._find_copies(originators)
+        absent = self._find_absent(folders)
+        report = self._keep(originators, absent, found)
+        if options.status is not None:
+            is_moved = not any(it.kind in ("older", "edited") for it in report.open)
+            mark = memory.runs.mark if is_moved or status is None else status["memory"]
+            write_status(options.status, report.status_fields(), self._now, status, mark)
+        return report
+
+    def _verify(self, originators: List[Originator], reader: Reader) -> None:
+        """Has each file be verified that isn't known. A verdict soon stands on the disk, because all of them may take hours."""
+        by_name = {it.name: it for it in originators}
+        works: List[Work] = []
+        for it in originators:
+            works += it.read(reader, self._judges)
+        unsaved: Set[str] = set()
+        pool = Pool(self._judges, self._options.jobs, self._workplace, self._progress)
+        for count, (work, judged) in enumerate(pool.judge(works), 1):
+            by_name[work.originator].take(work, judged, self._judges)
+            unsaved.add(work.originator)
+            if count % MOST_UNSAVED == 0:
+                for name in unsaved:
+                    by_name[name].record.save()
+                unsaved.clear()
+
+    def _find_copies(self, originators: List[Originator]) -> None:
+        """Files that two originators have."""
+        owners: Dict[str, str] = {}
+        for it in originators:
+            shared: Dict[str, List[Tuple[str, str]]] = {}
+            for name, sha256 in it.files():
+                owner = owners.setdefault(sha256, it.name)
+                if owner != it.name:
+                    shared.setdefault(owner, []).append((name, sha256))
+            for owner, files in sorted(shared.items()):
+                names = few(sorted(name for name, _ in files))
+                it.found.append(find("twice", digest(sorted(sha256 for _, sha256 in files)),
+                                     f"files of it are files of {shown_name(owner)} too: {names}", it.name))
+
+    def _find_absent(self, folders: Dict[str, str]) -> List[Tuple[str, Finding]]:
+        """Originators that are known, and of which no folder was given."""
+        absent = [it for it in self._memory.recorded() if it not in folders and self._memory.record(it).is_known_as(it)]
+        return [(it, find("gone", "gone", "no folder of this name was given", it)) for it in absent]
+
+    def _keep(self, originators: List[Originator], absent: List[Tuple[str, Finding]], found: List[Finding]) -> Report:
+        """Sorts what was found by what was accepted, and has the memory know it."""
+        memory, report = self._memory, Report()
+        report.add(found, memory.accepted)
+        for it in originators:
+            it.keep(is_held(it.record.accepted))
+            report.add(it.found, it.record.accepted)
+            report.add_originator(it)
+            self._lapse(it.name, it.found)
+        for name, finding in absent:
+            record = memory.record(name)
+            report.add([finding], record.accepted)
+            record.note_open({} if is_held(record.accepted)(finding) else {finding.name: finding.fact}, self._now)
+            self._lapse(name, [finding])
+        rows = lapses(memory.accepted, found)
+        memory.runs.append(rows)
+        look = is_held(memory.accepted)
+        opened = [[it.name, it.fact] for it in found if not look(it)]
+        stays = {it.place for it in found if it.kind == "edited" and not look(it)}
+        memory.save({"kind": "check", "time": self._now, "status": report.status, "open": opened,
+                     "has_status": self._options.status is not None}, stays)
+        return report
+
+    def _lapse(self, originator: str, found: List[Finding]) -> None:
+        """Lets accepted findings of an originator lapse that are gone, and saves what is known of it."""
+        record = self._memory.record(originator)
+        for row in lapses(record.accepted, found):
+            record.put(row)
+        record.save()

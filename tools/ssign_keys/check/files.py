@@ -1,0 +1,194 @@
+"""What lies in the folder of an originator: signed files, logs, and files of messages that were set aside. And their octets."""
+from __future__ import annotations
+
+import fnmatch
+import hashlib
+import os
+import stat
+from typing import Dict, List, NamedTuple, Optional, Sequence, Tuple
+
+from ..expand import FRONT, form_of
+from ..faults import Fault
+from ..files import open_regular, reason
+from ..logs import Log, open_log
+from ..progress import Progress
+from ..words import shown_name
+from ..workplace import Workplace
+from .record import Stat
+
+SIGNED, ASIDE, PASSING = ".frames", ".set-aside", ".new"
+# what a compression adds to a name, and the form that such a file has; None where it isn't read
+PACKED: Dict[str, Optional[str]] = {".gz": "gzip", ".xz": "xz", ".zst": "zstd", ".bz2": None}
+PIECE = 1 << 20
+
+
+class Unread(Exception):
+    """A file can't be read to its end. `fact` says as much of its octets as is known."""
+
+    def __init__(self, why: str, fact: str = "") -> None:
+        super().__init__(why)
+        self.why = why
+        self.fact = fact or why
+
+
+class Lying(NamedTuple):
+    """A file as it lies in its folder."""
+
+    name: str
+    bare: str
+    """Its name without what a compression adds."""
+    path: str
+    stat: Stat
+    """What changes where it is written to."""
+    changed: int
+    """When it was written to last, as the system reports it, in seconds."""
+
+
+class Folder(NamedTuple):
+    """What lies in a folder."""
+
+    signed: List[Lying]
+    asides: Dict[str, Lying]
+    """By their names without what a compression adds."""
+    logs: List[Lying]
+
+
+def bare_name(name: str) -> str:
+    """A name without what a compression adds."""
+    return next((name[:-len(it)] for it in PACKED if name.endswith(it)), name)
+
+
+def is_signed_name(name: str) -> bool:
+    """Whether a file of this name is a signed file."""
+    return not name.startswith(".") and bare_name(name).endswith(SIGNED)
+
+
+def look(folder: str, patterns: Sequence[str]) -> Folder:
+    """Looks into a folder. Raises OSError. Files of other names, and those that begin with a dot, are no concern of a check."""
+    signed, asides, logs = [], {}, []
+    for name in sorted(it for it in os.listdir(folder) if not it.startswith(".")):
+        try:
+            seen = os.lstat(os.path.join(folder, name))
+        except FileNotFoundError:
+            # it was renamed or compressed meanwhile, and has its new name
+            continue
+        bare = bare_name(name)
+        facts = (seen.st_size, seen.st_mtime_ns, seen.st_ctime_ns, seen.st_ino, seen.st_mode)
+        it = Lying(name, bare, os.path.join(folder, name), facts, int(seen.st_mtime))
+        if bare.endswith(SIGNED):
+            signed.append(it)
+        elif bare.endswith(ASIDE):
+            asides[bare] = it
+        elif stat.S_ISREG(seen.st_mode) and is_log_name(name, patterns):
+            logs.append(it)
+    return Folder(signed, asides, logs)
+
+
+def is_log_name(name: str, patterns: Sequence[str]) -> bool:
+    """Whether a file of this name is a log that has to be signed."""
+    if SIGNED in name or name.endswith(PASSING):
+        return False
+    return any(fnmatch.fnmatchcase(it, pattern) for it in (name, bare_name(name)) for pattern in patterns)
+
+
+class Reader:
+    """Reads files, each expanded, and takes their SHA-256."""
+
+    def __init__(self, workplace: Workplace, progress: Progress, max_expanded: Optional[int]) -> None:
+        self._workplace = workplace
+        self._progress = progress
+        self._max_expanded = max_expanded
+        self._count = 0
+
+    def sha256(self, it: Lying) -> str:
+        """The SHA-256 of the octets of a file, expanded. Raises Unread."""
+        return self.sums(it, [])[1][-1]
+
+    def sums(self, it: Lying, ends: Sequence[int]) -> Tuple[int, List[str]]:
+        """How many octets a file has, expanded, and the SHA-256 up to each of these rising ends that it reaches, and of all."""
+        refuse_odd(it)
+        self._count += 1
+        self._progress.show("reading files", self._count, 0, "files")
+        try:
+            log = open_log([it.path], False, self._workplace, self._progress, self._max_expanded)
+            with log.file:
+                return log.size, sums_of(log, ends)
+        except (Fault, OSError) as fault:
+            why = reason(fault) if isinstance(fault, OSError) else str(fault)
+            raise Unread(why, raw_sha256(it.path) or why) from fault
+
+
+def refuse_odd(it: Lying) -> None:
+    """Refuses what is no regular file, or isn't compressed as its name says."""
+    mode = it.stat[-1]
+    if not stat.S_ISREG(mode):
+        raise Unread("it is a link" if stat.S_ISLNK(mode) else "it is no regular file")
+    ending = it.name[len(it.bare):]
+    if not ending:
+        return
+    try:
+        with open(open_regular(it.path), "rb") as file:
+            form = form_of(file.read(FRONT))
+    except OSError as fault:
+        raise Unread(reason(fault)) from fault
+    wanted = PACKED[ending]
+    if wanted is None:
+        raise Unread(f"a file {ending} isn't read: expand it, or compress it by gzip, xz or zstd")
+    if form != wanted:
+        what = "it is empty" if not it.stat[0] else "it isn't compressed so"
+        raise Unread(f"its name ends with {ending}, and {what}", raw_sha256(it.path))
+
+
+def sums_of(log: Log, ends: Sequence[int]) -> List[str]:
+    """The SHA-256 of the octets up to each end that isn't after the last octet, and of all. Each octet is read once."""
+    hasher, at, found = hashlib.sha256(), 0, []
+    for end in [*(it for it in ends if it <= log.size), log.size]:
+        while at < end:
+            piece = os.pread(log.file.fileno(), min(PIECE, end - at), at)
+            if not piece:
+                raise log.changed()
+            hasher.update(piece)
+            at += len(piece)
+        found.append(hasher.hexdigest())
+    log.check_unchanged()
+    return found
+
+
+def raw_sha256(path: str) -> str:
+    """The SHA-256 of a file as it lies there; nothing where it can't be read."""
+    hasher = hashlib.sha256()
+    try:
+        with open(open_regular(path), "rb") as file:
+            for piece in iter(lambda: file.read(PIECE), b""):
+                hasher.update(piece)
+    except OSError:
+        return ""
+    return hasher.hexdigest()
+
+
+def find_folders(named: Sequence[str]) -> Dict[str, str]:
+    """The folder of each originator, by its name. Raises Fault where two have one name."""
+    folders: Dict[str, str] = {}
+    for folder in named:
+        for path in originators_in(folder):
+            name = os.path.basename(os.path.abspath(path))
+            if not name:
+                raise Fault(f"{shown_name(folder)} has no name that its originator could have: name the folders in it")
+            if folders.setdefault(name, path) != path:
+                raise Fault(f"{shown_name(folders[name])} and {shown_name(path)} have one name, which is the originator's: "
+                            "rename one of the folders")
+    return folders
+
+
+def originators_in(folder: str) -> List[str]:
+    """The folders of originators that a folder is or holds: if it has no signed file, each folder in it is one."""
+    try:
+        with os.scandir(folder) as entries:
+            found = [(it.name, it.is_dir()) for it in entries]
+    except OSError:
+        # whether somebody knows it, the memory says
+        return [folder]
+    inner = sorted(name for name, is_folder in found if is_folder and not name.startswith(".") and not is_signed_name(name))
+    if not inner or any(is_signed_name(name) for name, _ in found):
+        return [folder]
+    return [os.path.join(folder, name) for name in inner]

@@ -1,0 +1,188 @@
+"""Has each signed file be verified as `ssign-keys verify` does it, several at once, each in a process that is forked for it."""
+from __future__ import annotations
+
+import argparse
+import contextlib
+import json
+import os
+from typing import Any, Dict, Iterator, List, NamedTuple, Optional, Sequence, Tuple
+
+from ..blocks import Session
+from ..chain.link import MSGID
+from ..chain.link import read as read_link
+from ..commands import BUDGET
+from ..defaults import longest
+from ..faults import Fault
+from ..forked import Forked
+from ..json_text import compact
+from ..logs import open_log
+from ..programs import Refused
+from ..progress import Progress
+from ..refusals import fault_of
+from ..report import Group, ReportVisitor
+from ..reviewed import Reviewed
+from ..stamped import NONE
+from ..verdict import sentence
+from ..verify import Missing, Verifier
+from ..workplace import Workplace, finish, put
+from .keys import Judges
+
+# the chain message has three names of files, and few octets besides
+LONGEST_LINK = 1 << 16
+MOST_SAID = 2000
+
+
+class Work(NamedTuple):
+    """A file to verify."""
+
+    originator: str
+    name: str
+    path: str
+    sha256: str
+    """Of its octets, as they were read before."""
+    seen: int
+    """When these were seen first."""
+
+
+class Judged(NamedTuple):
+    """What came of it: the fields of a line `file`; or why there is no verdict."""
+
+    fields: Dict[str, Any]
+    unread: str = ""
+
+
+class Firsts(ReportVisitor):
+    """Finds in a report where the messages with the number 1 stand, whose key its one session has, or why none is trusted."""
+
+    def __init__(self, reviewed: Reviewed) -> None:
+        survey = reviewed.survey
+        super().__init__(is_in_order=survey.is_in_order)
+        self._notes = reviewed.notes
+        self._joined = survey.joined
+        self.key: Optional[str] = None
+        self.why = ""
+        self.places: List[int] = []
+
+    def session(self, session: Session, state: str) -> None:
+        """Looks up the key of a joined session."""
+        facts = self._notes.of(session)
+        if session in self._joined and facts is not None and facts.finding.identity is not None:
+            self.key = facts.finding.identity.fingerprint
+        elif facts is not None and not self.why:
+            self.why = facts.finding.why
+
+    def listed(self, group: Group, numbers: Sequence[int], places: Sequence[int]) -> None:
+        """Keeps the place of the number 1 of a group, which comes first."""
+        if numbers[0] == 1 and group.session in self._joined:
+            self.places.append(places[0])
+
+
+def link_in(message: bytes, session: Session) -> Optional[str]:
+    """The text of the chain message of a session, or None where this isn't that."""
+    head = message.split(b" ", 7)
+    if len(head) != 8 or head[2:7] != [session.host, session.app, session.procid, MSGID.encode("ascii"), b"-"]:
+        return None
+    text = head[7].decode("ascii", "replace")
+    found = read_link(text)
+    return text if found is not None and found.rsid == int(session.rsid) else None
+
+
+def judge(judges: Judges, path: str, seen: int) -> Dict[str, Any]:
+    """The verdict on a file, and what its chain message says. Raises Fault where the file can't be read."""
+    progress, arguments = Progress(), argparse.Namespace(**{**vars(judges.arguments), "logs": [path]})
+    with Workplace() as workplace:
+        log = open_log([path], False, workplace, progress, arguments.max_expanded)
+        log.longest = longest(arguments)
+        verifier = Verifier(judges.program, arguments, Missing([], None), log, None, workplace, progress, True)
+        try:
+            reviewed = verifier.review(judges.trust_at(seen), NONE)
+        except Refused as refused:
+            said = str(fault_of(refused, judges.program, arguments, log) or "it is refused")
+            return {"sha256": log.sums()[0][1], "status": 2, "said": said, "session": None, "key": None, "link": None}
+        firsts = Firsts(reviewed)
+        verifier.read(firsts)
+        fields = of_session(reviewed, firsts)
+        log.check_unchanged()
+        said = sentence(reviewed.facts)
+        said = f"{firsts.why}. {said}" if firsts.why and reviewed.facts.status else said
+        return {"sha256": log.sums()[0][1], "status": reviewed.facts.status, "said": said, **fields}
+
+
+def of_session(reviewed: Reviewed, firsts: Firsts) -> Dict[str, Any]:
+    """The session of a file, its key and its link: none of them where it has several, because a signed file is one session."""
+    joined = list(reviewed.survey.joined)
+    if len(joined) != 1:
+        return {"session": None, "key": None, "link": None}
+    host, app, procid, rsid = joined[0]
+    names = [it.decode("latin-1") for it in (host, app, procid)]
+    texts = []
+    for place in sorted(firsts.places):
+        found = reviewed.finder.find(place, LONGEST_LINK)
+        texts.append(link_in(found.text, joined[0]) if found.octets == len(found.text) else None)
+    links = [it for it in texts if it is not None]
+    return {"session": [*names, int(rsid)], "key": firsts.key, "link": links[0] if len(links) == 1 else None}
+
+
+class Pool:
+    """The processes that verify. Each writes what comes of its file to a passing file."""
+
+    def __init__(self, judges: Judges, jobs: int, workplace: Workplace, progress: Progress) -> None:
+        self._judges = judges
+        self._jobs = jobs
+        self._workplace = workplace
+        self._progress = progress
+        self._running: List[Tuple[int, Work, Forked]] = []
+
+    def judge(self, works: Sequence[Work]) -> Iterator[Tuple[Work, Judged]]:
+        """What each file is, as they end."""
+        waiting, done = list(enumerate(works))[::-1], 0
+        try:
+            while waiting or self._running:
+                while waiting and len(self._running) < self._jobs:
+                    self._start(*waiting.pop())
+                # a child has ended, which is left for `poll`
+                os.waitid(os.P_ALL, 0, os.WEXITED | os.WNOWAIT)
+                ended = [it for it in self._running if it[2].poll() is not None]
+                self._running = [it for it in self._running if it[2].returncode is None]
+                for number, work, child in ended:
+                    done += 1
+                    self._progress.show("verifying files", done, len(works), "files")
+                    yield work, self._read(number, child)
+        finally:
+            # each removes its own passing files
+            for _, _, child in self._running:
+                child.terminate()
+            for _, _, child in self._running:
+                child.wait()
+
+    def _start(self, number: int, work: Work) -> None:
+        out_path = self._workplace.path(f"out-{number}")
+
+        def verify() -> int:
+            # what commands may take is for each file
+            BUDGET.renew()
+            try:
+                fields = judge(self._judges, work.path, work.seen)
+            except (Fault, OSError) as fault:
+                fields = {"unread": str(fault)}
+            with open(out_path, "wb") as file:
+                put(file, compact(fields).encode("ascii"))
+                finish(file)
+            return 0
+
+        with self._workplace.new_file(f"out-{number}"), self._workplace.new_file(f"said-{number}") as said:
+            self._running.append((number, work, self._workplace.fork(verify, said, said)))
+
+    def _read(self, number: int, child: Forked) -> Judged:
+        """What a process found. Its passing files go."""
+        with open(self._workplace.path(f"out-{number}"), "rb") as file:
+            octets = file.read()
+        with open(self._workplace.path(f"said-{number}"), "rb") as file:
+            said = file.read(MOST_SAID).decode("utf-8", "backslashreplace").strip().splitlines()
+        for what in ("out", "said"):
+            os.remove(self._workplace.path(f"{what}-{number}"))
+        with contextlib.suppress(ValueError):
+            fields = json.loads(octets)
+            return Judged({}, fields["unread"]) if "unread" in fields else Judged(fields)
+        how = f"the status {child.returncode}" if (child.returncode or 0) >= 0 else f"the signal {-(child.returncode or 0)}"
+        return Judged({}, f"it can't be verified: {said[-1] if said else f'the process ended with {how}'}")
