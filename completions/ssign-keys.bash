@@ -7,7 +7,7 @@ _ssign_keys_offer() {
     [[ $current == = ]] && current=
     case $1 in
     words) mapfile -t COMPREPLY < <(compgen -W "$2" -- "$current") ;;
-    codes) mapfile -t COMPREPLY < <(compgen -W 'F1 F2 F3 F4 F5 F9 A1 A2 A3 A4 Q1 C1 C2 C3 C4 C5 C6 V1 E1 E2 W1 W2 P1 P2 O1 O2 O3 O6 O7 O8 O9 O10 O11 verified unverified missing unannounced session ok gap lost hole early beyond blocks tail tally disorder unlisted refused spoilt damaged unlisted-count refused-count spoilt-count damaged-count torn empty end joined disputed incomplete malformed untrusted unaccepted absent plain unparsed signature certificate wrapped-plain wrapped-unparsed wrapped-signature wrapped-certificate wrapped-spoilt count want seal payload trust yes M1 M2 M3 M4 M5 M6 M7 M8 M9 M10 M11 M12 S1 S2 S3 S4 S5 S6 S7 S8 S9 L1 L2 L3 L4 L5 L6 L7 T1 T2 T3 T4' -- "$current") ;;
+    codes) mapfile -t COMPREPLY < <(compgen -W 'F1 F2 F3 F4 F5 F9 A1 A2 A3 A4 Q1 C1 C2 C3 C4 C5 C6 V1 E1 E2 W1 W2 P1 P2 O1 O2 O3 O6 O7 O8 O9 O10 O11 verified unverified missing unannounced session ok gap lost hole early beyond blocks tail tally disorder unlisted refused spoilt damaged unlisted-count refused-count spoilt-count damaged-count torn empty end joined disputed incomplete malformed untrusted unaccepted absent plain unparsed signature certificate wrapped-plain wrapped-unparsed wrapped-signature wrapped-certificate wrapped-spoilt count want seal payload trust\? yes\? M1 M2 M3 M4 M5 M6 M7 M8 M9 M10 M11 M12 S1 S2 S3 S4 S5 S6 S7 S8 S9 L1 L2 L3 L4 L5 L6 L7 T1 T2 T3 T4' -- "$current") ;;
     files)
         compopt -o filenames 2>/dev/null
         mapfile -t COMPREPLY < <(compgen -f -- "$current")
@@ -27,7 +27,7 @@ _ssign_keys() {
         return
     fi
     if ((COMP_CWORD == 1)); then
-        _ssign_keys_offer words 'make sign live verify manifest stamp rotated seal answer explain help --help --version'
+        _ssign_keys_offer words 'make sign live verify check manifest stamp rotated seal answer explain help --help --version'
         return
     fi
     ((COMP_CWORD > 3)) && second=${COMP_WORDS[COMP_CWORD - 2]}
@@ -55,6 +55,10 @@ _ssign_keys() {
     'sign --max-len') _ssign_keys_offer text ;;
     'sign --max-messages') _ssign_keys_offer text ;;
     'sign --max-expanded') _ssign_keys_offer text ;;
+    'sign --folder') _ssign_keys_offer folders ;;
+    'sign --match') _ssign_keys_offer text ;;
+    'sign --quiet') _ssign_keys_offer text ;;
+    'sign --beat') _ssign_keys_offer text ;;
     'sign --rsid') _ssign_keys_offer text ;;
     'sign --host') _ssign_keys_offer text ;;
     'sign --app') _ssign_keys_offer text ;;
@@ -104,6 +108,8 @@ _ssign_keys() {
     'verify --ca') _ssign_keys_offer files ;;
     'verify --ca-anchor') _ssign_keys_offer files ;;
     'verify --cert') _ssign_keys_offer files ;;
+    'verify --trust') _ssign_keys_offer files ;;
+    'verify --seen') _ssign_keys_offer text ;;
     'verify --tsa-ca') _ssign_keys_offer files ;;
     'verify --tsa-ca-anchor') _ssign_keys_offer files ;;
     'verify --max-len') _ssign_keys_offer text ;;
@@ -121,13 +127,27 @@ _ssign_keys() {
     'verify --counters-out') _ssign_keys_offer files ;;
     'verify --jobs') _ssign_keys_offer text ;;
     'verify --ssign') _ssign_keys_offer files ;;
+    'check --memory') _ssign_keys_offer folders ;;
+    'check --accept') _ssign_keys_offer text ;;
+    'check --why') _ssign_keys_offer text ;;
+    'check --expect') _ssign_keys_offer text ;;
+    'check --keep') _ssign_keys_offer text ;;
+    'check --read') _ssign_keys_offer text ;;
+    'check --status') _ssign_keys_offer files ;;
+    'check --key') _ssign_keys_offer files ;;
+    'check --ca') _ssign_keys_offer files ;;
+    'check --trust') _ssign_keys_offer files ;;
+    'check --max-expanded') _ssign_keys_offer text ;;
+    'check --match') _ssign_keys_offer text ;;
+    'check --jobs') _ssign_keys_offer text ;;
+    'check --ssign') _ssign_keys_offer files ;;
     'manifest --set-aside') _ssign_keys_offer files ;;
     'manifest --left-out') ;;
     'manifest --signed') _ssign_keys_offer text ;;
     'manifest --last') _ssign_keys_offer text ;;
-    'manifest --seen') _ssign_keys_offer text ;;
     'manifest --logs') _ssign_keys_offer text ;;
     'manifest --to') _ssign_keys_offer text ;;
+    'manifest --seen') _ssign_keys_offer text ;;
     'manifest --max-len') _ssign_keys_offer text ;;
     'manifest --max-messages') _ssign_keys_offer text ;;
     'manifest --counters') _ssign_keys_offer files ;;
@@ -155,6 +175,8 @@ _ssign_keys() {
     'answer --ca') _ssign_keys_offer files ;;
     'answer --ca-anchor') _ssign_keys_offer files ;;
     'answer --cert') _ssign_keys_offer files ;;
+    'answer --trust') _ssign_keys_offer files ;;
+    'answer --seen') _ssign_keys_offer text ;;
     'answer --max-payload') _ssign_keys_offer text ;;
     'answer --jobs') _ssign_keys_offer text ;;
     'explain --ssign') _ssign_keys_offer files ;;
@@ -174,7 +196,7 @@ _ssign_keys_words() {
         ;;
     sign)
         if [[ $2 == -* ]]; then
-            _ssign_keys_offer words '--help --state --new-session --set-aside --wrap --no-wrap --key --lines --frames --max-len --max-messages --max-expanded --rsid --host --app --procid --msgid --pri --stamp --payload --ver --groups --count --frag --copies --ssign'
+            _ssign_keys_offer words '--help --state --new-session --set-aside --wrap --no-wrap --key --lines --frames --max-len --max-messages --max-expanded --folder --match --quiet --beat --no-beat --begin --rsid --host --app --procid --msgid --pri --stamp --payload --ver --groups --count --frag --copies --ssign'
         else
             _ssign_keys_offer files
         fi
@@ -182,14 +204,21 @@ _ssign_keys_words() {
     live) _ssign_keys_offer words '--help --state --out --new-session --keep-session --omprog --messages --seconds --rotate-size --rotate-daily --heartbeat --wrap --no-wrap --stamp-command --tsa --tsa-seconds --status --key --seal-command --public --tsa-ca --tsa-ca-anchor --lines --journal --host --app --procid --msgid --pri --payload --ver --groups --count --frag --copies --manifest --ssign' ;;
     verify)
         if [[ $2 == -* ]]; then
-            _ssign_keys_offer words '--help --any-order --manifest-seen --key --session-key --ca --ca-anchor --cert --at-signing-time --allow-sha1 --ignore-strangers --tsa-ca --tsa-ca-anchor --lines --frames --max-len --max-messages --max-expanded --max-payload --whole --from --counters --nights --manifest --from-manifest --manifest-last --stamped --findings --details --hostname --raw --json --html --answers-out --counters-out --jobs --ssign'
+            _ssign_keys_offer words '--help --any-order --manifest-seen --key --session-key --ca --ca-anchor --cert --trust --seen --at-signing-time --allow-sha1 --ignore-strangers --tsa-ca --tsa-ca-anchor --lines --frames --max-len --max-messages --max-expanded --max-payload --whole --from --counters --nights --manifest --from-manifest --manifest-last --stamped --findings --details --hostname --raw --json --html --answers-out --counters-out --jobs --ssign'
         else
             _ssign_keys_offer files
         fi
         ;;
+    check)
+        if [[ $2 == -* ]]; then
+            _ssign_keys_offer words '--help --memory --accept --why --expect --keep --read --status --head --key --ca --trust --allow-sha1 --max-expanded --match --begin --json --jobs --ssign'
+        else
+            _ssign_keys_offer folders
+        fi
+        ;;
     manifest)
         if [[ $2 == -* ]]; then
-            _ssign_keys_offer words '--help --set-aside --left-out --signed --last --seen --logs --to --sizes --lines --frames --max-len --max-messages --counters --json --ssign'
+            _ssign_keys_offer words '--help --set-aside --left-out --signed --last --logs --to --sizes --seen --lines --frames --max-len --max-messages --counters --json --ssign'
         else
             _ssign_keys_offer text
         fi
@@ -217,7 +246,7 @@ _ssign_keys_words() {
         ;;
     answer)
         if [[ $2 == -* ]]; then
-            _ssign_keys_offer words '--help --session-key --ca --ca-anchor --cert --at-signing-time --max-payload --jobs'
+            _ssign_keys_offer words '--help --session-key --ca --ca-anchor --cert --trust --seen --at-signing-time --max-payload --jobs'
         else
             _ssign_keys_offer files
         fi
@@ -229,7 +258,7 @@ _ssign_keys_words() {
             _ssign_keys_offer codes
         fi
         ;;
-    help) _ssign_keys_offer words 'make sign live verify manifest stamp rotated seal answer explain' ;;
+    help) _ssign_keys_offer words 'make sign live verify check manifest stamp rotated seal answer explain' ;;
     esac
 }
 

@@ -14,7 +14,7 @@ cd -- "$root" || exit 1
 longest=1800
 # the scripts that take longest begin first, so that none of them is alone at the end
 first=(verify archive_keys live large nightly refusals kept archive salvage_keys keys salvage stamps disputes answers-out linear strangers mistakes ssign sealing deliveries
-    verdict agreement reports bombs archive_results manifest)
+    verdict reports bombs archive_results manifest)
 
 usage() {
     echo 'usage: tests/all.sh [--gate] [-j N] [NAME..]' >&2

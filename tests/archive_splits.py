@@ -18,6 +18,7 @@ from dataclasses import dataclass, field
 from typing import Dict, List, Tuple
 
 from archives import frames, sign, ssign, unframed
+from review_runs import as_answers
 
 TOOL = os.path.join(os.path.dirname(os.path.realpath(__file__)), "..", "tools", "archive")
 
@@ -81,7 +82,7 @@ def make(dice: random.Random, passing: str, kind: str) -> Made:
     """A log of one of the four kinds."""
     made = Made([], b"")
     messages = merged(dice, signed(dice, passing, kind, made))
-    answers = ssign(["questions"], frames(messages)).splitlines(keepends=True)
+    answers = as_answers(ssign(["questions"], frames(messages))).splitlines(keepends=True)
     made.answers = b"".join(it for it in answers if it.startswith(b"trust ") or dice.random() > 0.1)
     made.stored = harmed(dice, messages) if kind == "harmed" else messages
     return made

@@ -16,6 +16,8 @@ import os
 import subprocess
 from typing import Iterator, List, Sequence
 
+from review_runs import as_answers
+
 PROGRAM = os.environ["SSIGN"]
 KEY = "2026-01-01T00:00:00Z K S0VZ"
 
@@ -95,7 +97,7 @@ def make(folder: str, originators: int, nights: int, messages: int, are_lines: b
                 texts = [message(originator, it) for it in range(number, number + count)]
                 log += sign(texts, host(originator), rsid, os.path.join(folder, "seals"))
                 number += count
-            asked = ssign(["questions"], log)
+            asked = as_answers(ssign(["questions"], log))
             answers.write(asked)
             with open(os.path.join(folder, "answers-of", f"{host(originator)}.answers"), "wb") as file:
                 file.write(asked)

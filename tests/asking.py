@@ -26,6 +26,8 @@ PATIENCE = 100
 KEY = ["--key", "keys/public-key.pem"]
 WRONG = "ssign-keys: the report of ssign review is wrong, so there is no verdict: "
 UNREAD, EARLY, ENDLESS = "ssign didn't read %s to the end", "ssign asks or waits for answers too early", "its questions have no end"
+PAYLOAD, END = b'{"line":"payload","payload_index":0,"payload":"S0VZ"}\n', b'{"line":"end"}\n'
+NO_QUESTION = "ssign-keys: line %d is no object `payload`, `trust?` or `yes?` of ssign review --ask --json"
 passed = failed = 0
 
 
@@ -55,13 +57,13 @@ class StandIn:
 
     def _ssign(self, *words: str) -> bytes:
         with open("log", "rb") as log:
-            shared = [it for it in self._shared if words[0] == "review" or it != "--in-order"]
+            shared = [it for it in self._shared if words[0] == "review" or it not in ("--in-order", "--tally")]
             return subprocess.run([self._program, *words, *shared], stdin=log, stdout=subprocess.PIPE, check=False).stdout
 
     def ask(self, change: Callable[[bytes], bytes] = lambda it: it) -> None:
         """Writes the questions, as they are changed, and closes their file."""
         with open(self._ask, "wb") as file:
-            file.write(change(self._ssign("questions", "--once") + b"end\n"))
+            file.write(change(self._ssign("questions", "--once") + END))
 
     def answers(self) -> BinaryIO:
         """Opens the answers."""
@@ -108,7 +110,7 @@ class StandIn:
 
     def do_no_end(self) -> None:
         """All questions, but not the line `end`."""
-        self.whole(lambda it: it[:-len(b"end\n")])
+        self.whole(lambda it: it[:-len(END)])
 
     def do_half_an_end(self) -> None:
         """The line `end` without its LF."""
@@ -132,7 +134,15 @@ class StandIn:
 
     def do_another_line(self) -> None:
         """A line that is no question."""
-        self.whole(lambda it: b"payload 0 S0VZ\nnonsense\n" + it)
+        self.whole(lambda it: PAYLOAD + b"nonsense\n" + it)
+
+    def do_answers_as_questions(self) -> None:
+        """The words of an answers file in the questions."""
+        self.whole(lambda it: it.replace(b'{"line":"trust?",', b'{"line":"trust",').replace(b'{"line":"yes?",', b'{"line":"yes",'))
+
+    def do_an_answer_among_questions(self) -> None:
+        """The word of an answers file in the questions about blocks alone."""
+        self.whole(lambda it: it.replace(b'{"line":"yes?",', b'{"line":"yes",'))
 
     def do_early_questions(self) -> None:
         """Asks before it reads the log."""
@@ -150,7 +160,7 @@ class StandIn:
         """Waits for answers while it asks."""
         self.read_log()
         with open(self._ask, "wb", buffering=0) as file:
-            file.write(b"payload 0 S0VZ\n")
+            file.write(PAYLOAD)
             with self.answers() as given:
                 given.read()
 
@@ -314,7 +324,7 @@ BROKEN = {
     "no_log": WRONG + EARLY, "half_the_log": WRONG + EARLY, "no_questions": WRONG + ENDLESS, "no_end": WRONG + ENDLESS,
     "half_an_end": WRONG + ENDLESS, "half_a_line": WRONG + ENDLESS, "no_end_and_no_end": WRONG + ENDLESS,
     "half_a_line_and_death": "ssign-keys: ssign review was ended by the signal SIGKILL, as where memory runs out",
-    "another_line": "ssign-keys: line 2 is no line of ssign questions --once, as those above it are",
+    "another_line": NO_QUESTION % 2, "answers_as_questions": NO_QUESTION % 2, "an_answer_among_questions": NO_QUESTION % 3,
     "early_questions": WRONG + EARLY, "early_answers": WRONG + EARLY, "early_answers_in_between": WRONG + EARLY,
     "no_answers": WRONG + UNREAD % "the answers", "unread_answers": WRONG + UNREAD % "the answers",
     "few_answers": WRONG + UNREAD % "the answers", "no_answers_and_no_end": WRONG + "ssign doesn't read the answers",
@@ -348,7 +358,7 @@ def check_counts(bench: Bench) -> None:
     with gzip.open("log.gz", "wb") as packed:
         packed.write(log)
     whole = ["review", len(log), hashlib.sha256(log).hexdigest()]
-    for what, words in (("plain", []), ("--json", ["--json"]), ("--raw", ["--raw"]), ("a page", ["--html", "page"]),
+    for what, words in (("plain", []), ("--json", ["--json"]), ("a page", ["--html", "page"]),
                         ("details and a page", ["--details", "--html", "page"]), ("by two", ["--jobs", "2"])):
         for name in ("log", "log.gz", "-"):
             called = f"counted.{what.replace(' ', '-')}.{name}"
@@ -359,6 +369,22 @@ def check_counts(bench: Bench) -> None:
             runs = [json.loads(it) for it in done.called]
             tell(f"{what}, {name}: the status", done.status == 0 and bool(done.out), done)
             tell(f"{what}, {name}: ssign is run once", runs == [whole], runs)
+
+
+def check_counts_of_findings(bench: Bench) -> None:
+    """How often ssign is run over a log with a changed message: once to count, and once more for each line."""
+    with open("log", "rb") as file:
+        log = bytearray(file.read())
+    log[log.index(b"message 77 ")] ^= 1
+    with open("log.found", "wb") as file:
+        file.write(log)
+    whole = ["review", len(log), hashlib.sha256(log).hexdigest()]
+    for what, words, count in (("plain", [], 2), ("--json", ["--json"], 1), ("--raw", ["--raw"], 2)):
+        called = f"found.{what}"
+        done = finished(bench.start(called, {}, *words, "log.found"), called)
+        runs = [json.loads(it) for it in done.called]
+        tell(f"{what}, a changed message: the status", done.status == 1 and bool(done.out), done)
+        tell(f"{what}, a changed message: how often ssign is run", runs == count * [whole], runs)
 
 
 def check_changed(bench: Bench) -> None:
@@ -391,6 +417,7 @@ def main(tool: str, program: str) -> None:
     """All tests."""
     bench = Bench(tool, program)
     check_counts(bench)
+    check_counts_of_findings(bench)
     check_changed(bench)
     check_broken(bench)
     print(f"asking: {passed} passed, {failed} failed")

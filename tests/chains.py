@@ -17,6 +17,7 @@ import sys
 import tempfile
 
 from origin_model import Refused
+from review_runs import as_answers
 from signing_model import Zeros, messages, output, want_lines
 from wrap_model import original
 
@@ -213,7 +214,7 @@ class Chain:
         if not self.exact or not self.counters:
             return
         reached.update(["reviewed with wraps" if self.wraps else "reviewed"])
-        write(self.path("answers"), run(["questions"], self.signed)[1])
+        write(self.path("answers"), as_answers(run(["questions"], self.signed)[1]))
         status, report, _ = run(["review", "--answers", self.path("answers")], self.signed)
         listed = sum(line.startswith(b"ok ") for line in report.splitlines())
         tell(self.name + ", review", (0, len(self.messages)), (status, listed))

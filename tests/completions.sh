@@ -26,9 +26,10 @@ fi
 
 # a folder with files to offer
 mkdir -- "$scratch/here" "$scratch/here/sub"
-touch -- "$scratch/here/a log" "$scratch/here/key.pem"
+# the word `yes?` of explain, read as a pattern, is the name of the last one
+touch -- "$scratch/here/a log" "$scratch/here/key.pem" "$scratch/here/yes1"
 cd -- "$scratch/here" || exit 1
-here=$'a log\nkey.pem\nsub'
+here=$'a log\nkey.pem\nsub\nyes1'
 
 declare -A asked=()
 offered=''
@@ -77,7 +78,7 @@ behind() {
     'ssign-keys live') return 1 ;;
     # what it does is no file
     'ssign-keys manifest') echo ;;
-    'ssign-keys make') echo sub ;;
+    'ssign-keys make' | 'ssign-keys check') echo sub ;;
     'ssign-keys '* | 'ssign-archive split') lines "$here" ;;
     'ssign-archive '*) echo sub ;;
     *) return 1 ;;
@@ -195,6 +196,8 @@ fi
 # ---- zsh, which completes on a terminal alone: one zsh sits on a pseudo-terminal, and another one types there
 cat >"$scratch/inner.zsh" <<'END'
 unsetopt zle_bracketed_paste prompt_sp
+# no question whether to list so many, which would take the next line for its answer
+LISTMAX=10000
 PROMPT= fpath=($COMPLETIONS $fpath)
 autoload -Uz compinit && compinit -u -D
 zstyle ':completion:*' insert-tab false
@@ -247,7 +250,9 @@ read_answer() {
     offered=''
     while IFS= read -r -t "$patience" line <&"${COPROC[0]}"; do
         [[ $line != ANSWERED ]] || break
-        [[ $line == END || $line == -[hV] ]] || offered+=${offered:+$'\n'}${line//'\ '/' '}
+        # each word comes as it would stand on the command line
+        line=${line//'\ '/' '} line=${line//'\?'/'?'}
+        [[ $line == END || $line == -[hV] ]] || offered+=${offered:+$'\n'}$line
     done
 }
 ask_zsh() {

@@ -96,9 +96,9 @@ class Input:
 
     def asked(self, trust, yes, payload):
         """The lines of questions, and of those with each payload once."""
-        self.say("questions", 0, {"trust": trust, "yes": yes})
+        self.say("questions", 0, {"trust?": trust, "yes?": yes})
         for command in ("questions --once", "questions --once --json"):
-            self.say(command, 0, {"payload": payload, "trust": trust, "yes": yes})
+            self.say(command, 0, {"payload": payload, "trust?": trust, "yes?": yes})
 
 
 def announcing(*hashes, first=1, gbc=0, rsid=7, group=(0, 0)):
@@ -149,7 +149,7 @@ def signed(n):
         made.put_block(announcing(*texts, first=first, gbc=first // 10))
     made.review(0, session=1, ok=n)
     made.whole(0, session=1, ok=n)
-    made.say("questions", 0, {"trust": 1, "yes": 1 + n // 10})
+    made.say("questions", 0, {"trust?": 1, "yes?": 1 + n // 10})
     made.say("extract", 0, n)
     made.say("carry", 0, 1)
     made.say("counters", 0, {"count": 2, "end": 1})
@@ -403,7 +403,7 @@ def repeated(n):
     made.put(*texts)
     for i in range(n):
         made.put_block(announcing(*texts), i == 0)
-    made.say("questions", 0, {"trust": 1, "yes": 1 + n})
+    made.say("questions", 0, {"trust?": 1, "yes?": 1 + n})
     made.say("extract", 0, 10)
     made.whole(0, session=1, ok=10)
     return made.review(0, session=1, ok=10)
@@ -491,7 +491,7 @@ def copies_joined(n):
     made = Input()
     for i in range(n):
         made.put_block(certificate(), i == 0)
-    made.say("questions", 0, {"trust": 1, "yes": n})
+    made.say("questions", 0, {"trust?": 1, "yes?": n})
     made.say("carry", 0, 1)
     return made.review(0, session=1)
 
@@ -548,7 +548,7 @@ def attacked(n, strange, payloads=(PAYLOAD,), joined=True):
         made.say("review --pinned", 1, {"session": 1, "ok": n, "refused": n, "end": 1})
         made.say("carry --pinned", 0, 1)
         asked = len(payloads)
-        made.say("questions --once --pinned", 0, {"payload": asked, "trust": asked, "yes": asked * (1 + n // 10 + n)})
+        made.say("questions --once --pinned", 0, {"payload": asked, "trust?": asked, "yes?": asked * (1 + n // 10 + n)})
     return made
 
 
@@ -567,7 +567,7 @@ def strangers_agree(n):
     made = attacked(n, lambda i: certificate(i % len(PAYLOAD) + 1, PAYLOAD[i % len(PAYLOAD):]))
     made.review(1, session=1, ok=n, refused=n)
     made.say("counters", 0, {"count": 2, "end": 1})
-    made.say("questions --once", 0, {"payload": 1, "trust": 1, "yes": 1 + n // 10 + n})
+    made.say("questions --once", 0, {"payload": 1, "trust?": 1, "yes?": 1 + n // 10 + n})
     return made.say("carry", 0, 1)
 
 
@@ -576,7 +576,7 @@ def strangers_apart(n):
     made = attacked(n, lambda i: certificate(rsid=8 + i * 7919 % n), joined=False)
     made.say("review --pinned", 1, {"session": n + 1, "ok": n, "refused": n, "end": 1})
     made.say("carry --pinned", 0, 1 + n)
-    return made.say("questions --once --pinned", 0, {"payload": 1, "trust": n + 1, "yes": 1 + n // 10 + n})
+    return made.say("questions --once --pinned", 0, {"payload": 1, "trust?": n + 1, "yes?": 1 + n // 10 + n})
 
 
 def strangers_payloads(n):
@@ -775,7 +775,7 @@ def beside(n):
     made.put_block(certificate())
     front, back = announcing(b"a")
     made.put_block((front, back + b"".join(b'[%x SIGN="AAAA"]' % i for i in range(n))))
-    made.say("questions", 0, {"trust": 1, "yes": 2})
+    made.say("questions", 0, {"trust?": 1, "yes?": 2})
     return made.review(1, session=1, gap=1)
 
 
@@ -783,7 +783,7 @@ def long_sign(n):
     """A block with a long signature."""
     made = Input(*LONG_LINES)
     made.put_block(certificate(), sign=b64(b"x" * n))
-    made.say("questions", 0, {"trust": 1, "yes": 1})
+    made.say("questions", 0, {"trust?": 1, "yes?": 1})
     return made.review(0, session=1)
 
 

@@ -21,7 +21,7 @@ from review_examples import (
     A, ALL, B, C, C1, C11, C2, CERTIFICATE_ALONE, CI, H1, M1, M2, NO_SIGNATURE, NO_TRUST, S, S7, S8, always, certificate, h, signature)
 from review_logs import LAST
 from review_model import Log, review, state
-from review_runs import answers_text, answers_to, ended, frame, line, read_frames, read_lines, report_text
+from review_runs import answers_text, answers_to, as_answers, ended, frame, line, read_frames, read_lines, report_text
 
 SEEDS = 2_000
 # how many differences are shown
@@ -199,7 +199,7 @@ def by_signing(program):
         seals = b"".join(it.replace(b"want ", b"seal ", 1) + b" AAAA\n" for it in plan)
         signed = program.run(["sign", *program.put_answers(seals), *given], log)[1]
         messages, _ = read_frames(signed)
-        options = program.put_answers(program.run(["questions"], signed)[1])
+        options = program.put_answers(as_answers(program.run(["questions"], signed)[1]))
         sent = {13: 4, 14: 3, 15: 3}
         blocks = sum(-(-it // count) for it in sent.values())
         wanted = [f'count a"b\\c - - 7 {blocks}'] + [f'count a"b\\c - - 7 1 {pri} {it + 1}' for pri, it in sent.items()]

@@ -371,7 +371,7 @@ END
 chmod +x asking
 keys verify "${key[@]}" --ssign ./asking spelled
 holds 'a stranger spells three payloads: the numbers' test "$(grep -c '^    numbers 1 to 10: 10 listed' out)" = 3
-holds 'a stranger spells three payloads: only own blocks are asked about' test "$(grep -c '^yes ' asked)" = \
+holds 'a stranger spells three payloads: only own blocks are asked about' test "$(grep -c '^{"line":"yes?"' asked)" = \
     "$("$program" inspect <own | grep -c '^certificate \|^signature ')"
 
 # ---- an archive with keys

@@ -117,8 +117,8 @@ holds 'explain --json: each code, in the order of the tables' \
     test "$(cut -d ' ' -f 2 "$scratch/entries" | tr '\n' ' ')" = "${told[*]} ${unprinted[*]} "
 holds 'explain --json: the tables' test "$(cut -d ' ' -f 1 "$scratch/entries" | uniq | tr '\n' ' ')" = 'refusals words faults unprinted '
 holds 'explain --json: the first and the last code of the tables' \
-    test "$(cut -d ' ' -f 1,2 "$scratch/entries" | grep -E ' (F1|O11|verified|yes|M1|S9|F6)$' | tr '\n' ' ')" = \
-    'refusals F1 refusals O11 words verified words yes faults M1 faults S9 unprinted F6 '
+    test "$(cut -d ' ' -f 1,2 "$scratch/entries" | grep -E ' (F1|O11|verified|yes\?|M1|S9|F6)$' | tr '\n' ' ')" = \
+    'refusals F1 refusals O11 words verified words yes? faults M1 faults S9 unprinted F6 '
 holds 'explain --json: an object by hand' grep -qxF '{"line":"explanation","table":"faults","code":"M10","text":"The value of a parameter isn'"'"'t UTF-8. The sender wrote it in another encoding, or an octet was changed: set the sender to UTF-8."}' "$scratch/all"
 while read -r table code text; do
     holds "explain --json: the text of $code" test "$("$program" explain "$code" </dev/null)" = "$text"

@@ -18,7 +18,7 @@ What follows prints cases: `yes` or `no`, a tab, what is asked, a tab, and a lin
                                                  are wrong in one thing. LONG is a key whose q has 256 bits
     key_cases.py hides PRIVATE                   blocks whose VER hides among octets that are spelled like one
     key_cases.py payloads                        for each line of standard input, WANTED, WHAT, PAYLOAD, PRIVATE, VERSION
-                                                 and SESSION with tabs between them, a `trust` line and a `yes` line:
+                                                 and SESSION with tabs between them, a `trust?` line and a `yes?` line:
                                                  which of them hold WANTED says by `both`, `trust` or `none`
 """
 from __future__ import annotations
@@ -32,7 +32,7 @@ from typing import Callable, Dict, Iterator, List, Tuple
 import dsa_model
 from dsa_model import Key, Pair, numbers, spell
 from review_model import Log, questions
-from review_runs import frame, question_text, read_frames
+from review_runs import as_answers, frame, joined, question_text, read_frames
 
 HEAD = "host.example.org syslogd 2138 - "
 RFC_PAYLOAD = """2009-05-03T14:00:39.519005+02:00 K BACsLMZ
@@ -143,8 +143,8 @@ def check_log(frames: str, answers: str, key_file: str) -> None:
     for _, payload, *rest in (it.encode().split(b" ") for it in asked):
         want(states(unbase(payload), key), "a payload doesn't state the key")
         want(not rest or is_signed(key, *map(unbase, rest)), "a signature isn't valid")
-    with open(answers, encoding="ascii") as text:
-        want(text.read().splitlines() == asked, "the answers aren't all that is asked")
+    with open(answers, "rb") as file:
+        want(file.read() == as_answers(joined(asked)), "the answers aren't all that is asked")
 
 
 def is_signed(key: Key, octets: bytes, signature: bytes) -> bool:
@@ -223,7 +223,7 @@ def wrong_signatures(pair: Pair, longer: Pair) -> Iterator[Case]:
     der = dsa_model.item(0x30, dsa_model.integer(r) + dsa_model.integer(s))
 
     def case(wanted: str, what: str, text: bytes, sign: bytes) -> Case:
-        return wanted, what, f"yes {payload} {base(text)} {base(sign)}"
+        return wanted, what, f"yes? {payload} {base(text)} {base(sign)}"
 
     yield case("yes", "a signature over SHA-1", octets, good)
     yield case("yes", "a signature over SHA-256, cut to 160 bits", octets_256, of_256)
@@ -274,7 +274,7 @@ def longer_key(longer: Pair) -> Iterator[Case]:
     for wanted, version in (("no", "0111"), ("yes", "0121")):
         octets = block(version, "q")
         yield wanted, f"a q of 256 bits with VER {version}", \
-            f"yes {payload} {base(octets)} {base(signature(longer, octets, version))}"
+            f"yes? {payload} {base(octets)} {base(signature(longer, octets, version))}"
 
 
 def wrong_payloads(pair: Pair, other: Pair) -> Iterator[Case]:
@@ -316,8 +316,8 @@ def wrong_payloads(pair: Pair, other: Pair) -> Iterator[Case]:
     ]
     for wanted, what, payload in given:
         asked = base(payload.encode())
-        yield wanted, what, f"trust {asked}"
-        yield wanted, f"{what}, and a signature", f"yes {asked} {base(octets)} {base(good)}"
+        yield wanted, what, f"trust? {asked}"
+        yield wanted, f"{what}, and a signature", f"yes? {asked} {base(octets)} {base(good)}"
 
 
 def print_wrong(private: str, other: str, longer: str) -> None:
@@ -334,7 +334,7 @@ def print_hidden(private: str) -> None:
     for version, text in HIDDEN:
         octets = text.encode()
         good = signature(pair, octets, version)
-        yes_line = f"yes {payload} {base(octets)} {base(good)}"
+        yes_line = f"yes? {payload} {base(octets)} {base(good)}"
         print_cases(iter([("yes", f"VER {version} of {text!r}", yes_line)]))
 
 
@@ -350,8 +350,8 @@ def print_payloads() -> None:
         asked = base(payload.encode())
         good = base(signature(pairs[private], octets, version))
         print_cases(iter([
-            ("no" if wanted == "none" else "yes", f"{what}: payload", f"trust {asked}"),
-            ("yes" if wanted == "both" else "no", f"{what}: signature", f"yes {asked} {base(octets)} {good}"),
+            ("no" if wanted == "none" else "yes", f"{what}: payload", f"trust? {asked}"),
+            ("yes" if wanted == "both" else "no", f"{what}: signature", f"yes? {asked} {base(octets)} {good}"),
         ]))
 
 

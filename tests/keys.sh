@@ -129,16 +129,16 @@ holds 'three of them are signed' test "$sealed_alone" = 3
 # judge WHAT ARG..: answers the questions of the file `rows` with these arguments, and checks each of them.
 judge() {
     local heading=$1 wanted what line said
-    local -A answered=()
+    local -A held=()
     cut -f 3 rows >asked
     keys answer "${@:2}" <asked
-    grep -P '^yes\t' rows | cut -f 3 >right
+    grep -P '^yes\t' rows | cut -f 3 | answered >right
     holds "$heading: the answers, in their order" cmp right out
     while IFS= read -r line; do
-        answered[$line]=yes
-    done <out
+        held[$line]=yes
+    done < <(unanswered <out)
     while IFS=$'\t' read -r wanted what line; do
-        said=${answered[$line]-no}
+        said=${held[$line]-no}
         [[ $said == "$wanted" ]] && said='' || said="    $said, and not $wanted"
         tell "$heading: $what" "$said"
     done <rows
@@ -156,13 +156,13 @@ else
 fi
 holds 'three questions about them' test "$(wc -l <questions)" = 3
 keys answer public-key.pem <questions
-expect 'the signatures that RFC 5848 shows are valid' 0 "$(<questions)" ''
+expect 'the signatures that RFC 5848 shows are valid' 0 "$(answered <questions)" ''
 keys answer one/public-key.pem <questions
 expect 'and not with another key' 1 '' 'ssign-keys: 0 of 1 payloads state this key'
 keys answer one/public-key.pem other/public-key.pem < <(cat questions questions)
 expect 'nor with two others' 1 '' 'ssign-keys: 0 of 2 payloads are trusted'
 keys answer one/public-key.pem public-key.pem <questions
-expect 'but with one of several' 0 "$(<questions)" ''
+expect 'but with one of several' 0 "$(answered <questions)" ''
 
 # What is wrong in one thing
 cases wrong one/private-key.pem other/private-key.pem long/private-key.pem >rows
@@ -174,20 +174,20 @@ judge 'hidden' one/public-key.pem
 # questions about what was sealed
 payload=$(printf '%s' "$(<one/payload)" | base64 -w 0)
 {
-    echo "trust $payload"
-    sed "s|^seal|yes $payload|" seals
+    echo "trust? $payload"
+    sed "s|^seal|yes? $payload|" seals
 } >questions
 keys answer one/public-key.pem <questions
-expect 'what was sealed is valid' 0 "$(<questions)" ''
+expect 'what was sealed is valid' 0 "$(answered <questions)" ''
 keys answer other/public-key.pem <questions
 expect 'and not with another key' 1 '' 'ssign-keys: 0 of 1 payloads state this key'
 sed 'p;p' questions >copies
 keys answer one/public-key.pem <copies
-expect 'lines that are copies' 0 "$(<copies)" ''
+expect 'lines that are copies' 0 "$(answered <copies)" ''
 keys answer one/public-key.pem </dev/null
 expect 'no question' 0 '' ''
 keys answer one/public-key.pem < <(head -c -1 questions)
-expect 'a last question without LF' 0 "$(<questions)" ''
+expect 'a last question without LF' 0 "$(answered <questions)" ''
 
 # Many chunks, and processes that share them: an answer here and there is wrong
 other_payload=$(printf '%s' "$(<other/payload)" | base64 -w 0)
@@ -207,15 +207,15 @@ for turn in range(40):
             print("yes", line, sep="\t")
 END
 cut -f 2 many.cases >many
-grep -P '^yes\t' many.cases | cut -f 2 >many.right
+grep -P '^yes\t' many.cases | cut -f 2 | answered >many.right
 for jobs in 1 3; do
     keys answer one/public-key.pem --jobs "$jobs" <many
     holds "many questions by $jobs processes: status" test "$status" = 0
     holds "many questions by $jobs processes" cmp many.right out
     refuses "a wrong line among many, by $jobs processes" 'line 1001: the octets are no block of VER 0111 or 0121' \
-        answer one/public-key.pem --jobs "$jobs" < <(head -n 1000 many; echo "yes $payload S0VZ AAAA"; tail -n 300 many; echo)
+        answer one/public-key.pem --jobs "$jobs" < <(head -n 1000 many; echo "yes? $payload S0VZ AAAA"; tail -n 300 many; echo)
     refuses "a line of spaces among many, by $jobs processes" \
-        "line 1001 is no line \`trust PAYLOAD\` or \`yes PAYLOAD OCTETS SIGNATURE\` of ssign questions" \
+        "line 1001 is no line \`trust? PAYLOAD\` or \`yes? PAYLOAD OCTETS SIGNATURE\` of ssign questions" \
         answer one/public-key.pem --jobs "$jobs" < <(head -n 1000 many; echo ' '; tail -n 300 many; echo)
 done
 for jobs in 0 1025 ''; do
@@ -233,22 +233,22 @@ no_long() {
 }
 none='ssign-keys: 0 of 1 payloads state this key'
 read -r _ octets signature < <(sed -n 1p seals)
-no_long 'a long signature' 0 '' < <(printf 'yes %s %s ' "$payload" "$octets" && head -c 999999 /dev/zero | base64 -w 0)
+no_long 'a long signature' 0 '' < <(printf 'yes? %s %s ' "$payload" "$octets" && head -c 999999 /dev/zero | base64 -w 0)
 behind() {
-    printf 'yes %s ' "$payload"
+    printf 'yes? %s ' "$payload"
     cat <(base64 -d <<<"$octets") <(printf ' ') - | base64 -w 0
     printf ' %s\n' "$signature"
 }
 no_long 'a long MSG' 0 '' < <(long '][' | behind)
 no_long 'a MSG of octets 0' 0 '' < <(head -c 1000000 /dev/zero | behind)
 no_long 'a long payload' 1 "ssign-keys: 1 payload has more than 65536 octets, the longest 1333336, and is not trusted: --max-payload looks at longer ones
-$none" < <(printf 'trust %s\n' "$(cat <(printf -- '- K ') <(head -c 999999 /dev/zero | base64 -w 0) | base64 -w 0)")
+$none" < <(printf 'trust? %s\n' "$(cat <(printf -- '- K ') <(head -c 999999 /dev/zero | base64 -w 0) | base64 -w 0)")
 
 # a payload of ten million octets, in each of twenty lines, in little memory
 "$python" - "$octets" "$signature" >long-lines <<'END'
 import base64, sys
 payload = base64.b64encode(b"- K " + b"A" * 9999996).decode()
-sys.stdout.write(f"trust {payload}\n" + f"yes {payload} {sys.argv[1]} {sys.argv[2]}\n" * 19)
+sys.stdout.write(f"trust? {payload}\n" + f"yes? {payload} {sys.argv[1]} {sys.argv[2]}\n" * 19)
 END
 (ulimit -v 400000 && exec "$python" "$root/tools/ssign-keys" answer one/public-key.pem --jobs 1 <long-lines >out 2>err)
 status=$?
@@ -293,7 +293,7 @@ row none 'a key in N' "$(sed 's/ K / N /' one/payload)" $mine 0111 'h s - 1' | c
 judge 'no payload' --session-key 'h s - 1' one/public-key.pem
 row none 'N without a key' '- N' $mine 0111 'h s - 1' | cases payloads >rows
 judge 'a key, but none of a session' one/public-key.pem
-# a payload that names no key, and whose `trust` line has its session from the line after it, wherever a chunk ends
+# a payload that names no key, and whose `trust?` line has its session from the line after it, wherever a chunk ends
 {
     row both 'N' '- N' $mine 0111 'h s - 1'
     row both 'N at a time' '2026-01-15T09:16:30Z N' $mine 0111 'h s - 1'
@@ -306,7 +306,7 @@ judge 'a key, but none of a session' one/public-key.pem
 } >pairs
 for jobs in 1 3; do
     keys answer --session-key 'h s - 1' one/public-key.pem --jobs "$jobs" <pairs
-    holds "sessions in many chunks, by $jobs processes" cmp pairs out
+    holds "sessions in many chunks, by $jobs processes" cmp <(answered <pairs) out
 done
 for words in '' 'h s - 1 2' 'h  s 1'; do
     refuses "the session '$words'" "the session '$words' isn't four words HOST APP PROCID RSID with one space between two" \
@@ -318,7 +318,7 @@ cat one/public-key.pem other/public-key.pem >both.pem
 refuses 'two keys in the file of a session' "both.pem holds 2 keys, and the session 'h s - 1' has one" \
     answer --session-key 'h s - 1' both.pem
 keys answer both.pem <questions
-expect 'several keys in a file' 0 "$(<questions)" ''
+expect 'several keys in a file' 0 "$(answered <questions)" ''
 
 # ---- Keys that can't be used
 missing() {
@@ -331,7 +331,7 @@ refuses 'no key in the file' 'wants holds no PEM: a DSA private key in PEM is wa
 refuses 'no key in the file to check with' 'wants holds no PEM: a DSA public key in PEM is wanted' answer wants
 refuses 'no key' "the following arguments are required: PRIVATE.pem (see \`ssign-keys seal --help\`)" seal
 refuses 'no key to check with' \
-    'nothing says which key is to be trusted: give a public key, --session-key, --ca or --cert' answer
+    'nothing says which key is to be trusted: give a public key, --session-key, --ca, --cert or --trust' answer
 refuses 'the public key to sign with' 'one/public-key.pem holds a public key: a DSA private key in PEM is wanted' seal one/public-key.pem
 refuses 'the private key to check with' \
     'one/private-key.pem holds a private key: signatures are checked with the public key alone' answer one/private-key.pem
@@ -411,16 +411,19 @@ refuses 'a wrong line behind good ones' "line 4$wrong" seal one/private-key.pem 
 refuses 'a hash that is shorter than q' \
     'line 1: VER 0111 has a hash of 160 bits, and the number q of the key has 256: use --ver 0121, or another key' \
     seal long/private-key.pem < <(head -n 1 wants)
-wrong=" is no line \`trust PAYLOAD\` or \`yes PAYLOAD OCTETS SIGNATURE\` of ssign questions"
-bad answer "line 1$wrong" '' 'trust' 'trust ' 'trust S0V' 'trust S0VZ ' ' trust S0VZ' 'trust  S0VZ' 'Trust S0VZ' $'trust S0VZ\r' 'trust S0VZ S0VZ' \
-    'trust S0V=' 'yes S0VZ S0VZ' 'yes S0VZ' 'yes S0VZ S0VZ AAAA AAAA' 'yes S0VZ S0VZ AAA' 'yes S0VZ S0VZ ' 'yes S0VZ S0V= AAAA' 'yes S0VZ  AAAA' \
-    "yes $payload $octets AAA" 'seal S0VZ AAAA' 'want S0VZ'
-refuses 'a question of nothing' "line 1$wrong" answer one/public-key.pem <<<'trust '
-refuses 'an empty signature' "line 1$wrong" answer one/public-key.pem <<<"yes $payload $octets "
+wrong=" is no line \`trust? PAYLOAD\` or \`yes? PAYLOAD OCTETS SIGNATURE\` of ssign questions"
+bad answer "line 1$wrong" '' 'trust?' 'trust? ' 'trust? S0V' 'trust? S0VZ ' ' trust? S0VZ' 'trust?  S0VZ' 'Trust? S0VZ' $'trust? S0VZ\r' \
+    'trust? S0VZ S0VZ' 'trust? S0V=' 'trust?? S0VZ' 'yes? S0VZ S0VZ' 'yes? S0VZ' 'yes? S0VZ S0VZ AAAA AAAA' 'yes? S0VZ S0VZ AAA' \
+    'yes? S0VZ S0VZ ' 'yes? S0VZ S0V= AAAA' 'yes? S0VZ  AAAA' "yes? $payload $octets AAA" 'seal S0VZ AAAA' 'want S0VZ' \
+    "trust $payload" "yes $payload $octets $signature" "trust ? $payload" "trust?$payload"
+refuses 'a question of nothing' "line 1$wrong" answer one/public-key.pem <<<'trust? '
+refuses 'an empty signature' "line 1$wrong" answer one/public-key.pem <<<"yes? $payload $octets "
+refuses 'answers as questions' "line 1$wrong" answer one/public-key.pem < <(answered <questions)
+refuses 'an answer after questions' "line 42$wrong" answer one/public-key.pem < <(cat questions && answered <questions)
 refuses 'a long line of spaces' "line 1$wrong" answer one/public-key.pem < <(long ' ')
-refuses 'a long line that is no base64' "line 1$wrong" answer one/public-key.pem < <(printf 'trust '; long 'A'; echo '!')
+refuses 'a long line that is no base64' "line 1$wrong" answer one/public-key.pem < <(printf 'trust? '; long 'A'; echo '!')
 refuses 'answer: octets that are no block' 'line 1: the octets are no block of VER 0111 or 0121' \
-    answer one/public-key.pem <<<"yes $payload S0VZ AAAA"
+    answer one/public-key.pem <<<"yes? $payload S0VZ AAAA"
 
 # ---- Certificates
 
@@ -684,9 +687,9 @@ open("key-and-packed.gpg", "wb").write(octets + open("packed.gpg", "rb").read())
     mkdir -p empty
     PATH=$scratch/empty keys answer dsa.gpg
     expect 'no gpg' 2 '' "ssign-keys: the command gpg is missing; on Debian and Ubuntu \`apt-get install gpg\` installs it"
-    asked="trust $(openpgp dsa.gpg | base64 -w 0)"
+    asked="trust? $(openpgp dsa.gpg | base64 -w 0)"
     PATH=$scratch/empty keys answer dsa-public.pem <<<"$asked"
-    expect 'a payload is read without gpg' 0 "$asked" ''
+    expect 'a payload is read without gpg' 0 "$(answered <<<"$asked")" ''
     holds 'nothing is left in the folder of temporary files' test -z "$(ls temporary)"
 }
 

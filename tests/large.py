@@ -21,6 +21,8 @@ import subprocess
 import sys
 import tempfile
 
+from review_runs import as_answers
+
 PATIENCE = 300
 HEAD = b"<13>1 - - - - - - "
 # the longest message without an option, and with one
@@ -147,9 +149,9 @@ def signed(bench, name, messages, count, options=(), spell=framed, full=True):
 
     log = bench.path("signed", octets)
     options = [it for it in options if it not in ("--lines", "--wrap")]
-    questions = b"trust %s\n" % PAYLOAD + b"".join(b"yes %s %s AAAA\n" % (PAYLOAD, it) for it in wants)
+    questions = b"trust? %s\n" % PAYLOAD + b"".join(b"yes? %s %s AAAA\n" % (PAYLOAD, it) for it in wants)
     bench.check(name + ": questions", ["questions", *options], log, 0, questions)
-    told = [*options, "--answers", bench.path("answers", questions)]
+    told = [*options, "--answers", bench.path("answers", as_answers(questions))]
     joined, end = b"session %s joined\n" % SESSION, b"end %d\n" % len(sent)
     oks = [b"ok %s 0 0 %d %d\n" % (SESSION, number, place) for number, place in enumerate(places, 1)]
     bench.check(name + ": review", ["review", *told], log, 0, joined + b"".join(oks) + end)
@@ -178,7 +180,7 @@ def long_blocks(bench, most):
     filled = [text + b" " + b"z" * (most - len(text) - 1) for text in blocks]
     log = bench.path("log", framed([*told, *filled]))
     _, questions = bench.run("blocks of %d octets: questions" % most, ["questions", *options], log)
-    answers = bench.path("answers", questions)
+    answers = bench.path("answers", as_answers(questions))
     report = b"session %s joined\n" % SESSION + b"".join(b"ok %s 0 0 %d %d\n" % (SESSION, i + 1, i) for i in range(3)) + b"end 7\n"
     name = "blocks of %d octets: " % most
     bench.check(name + "review", ["review", *options, "--answers", answers], log, 0, report)

@@ -15,6 +15,7 @@ import tempfile
 
 sys.path.insert(0, os.path.join(os.path.dirname(os.path.dirname(os.path.realpath(__file__))), "tools"))
 
+from review_runs import as_answers
 from ssign_keys import live_log, live_state
 from ssign_keys.live_disk import OUT, STATE, Disk, NoRoom
 from ssign_keys.live_engine import Engine, split_frames
@@ -342,7 +343,7 @@ class Review:
         with tempfile.TemporaryDirectory() as folder:
             paths = [os.path.join(folder, it) for it in ("answers", "counters")]
             questions = subprocess.run([program, "questions"], input=log, capture_output=True, check=False).stdout
-            for path, octets in zip(paths, (questions, counters)):
+            for path, octets in zip(paths, (as_answers(questions), counters)):
                 with open(path, "wb") as file:
                     file.write(octets)
             ran = subprocess.run([program, "review", f"--answers={paths[0]}", f"--counters={paths[1]}"], input=log,

@@ -255,7 +255,8 @@ def table(program):
         yield at_end + ["--nothing", "lines"], b"", "there is no option --nothing " + SEE % command[1]
         yield at_end + ["--max-lne=5", "lines"], b"", "there is no option --max-lne: perhaps --max-len is meant " + SEE % command[1]
         yield command[:2] + ["--frame"], b"", "there is no option --frame: perhaps --frames is meant " + SEE % command[1]
-        yield at_end, b"", "the following arguments are required: LOG " + SEE % command[1]
+        needed = "LOG, or --folder DIR" if command[1] == "sign" else "LOG"
+        yield at_end, b"", f"the following arguments are required: {needed} " + SEE % command[1]
         yield at_end + ["--max-len", "-1", "lines"], b"", wants % ("max-len", "-1", "1 to 1048576")
 
     # several logs

@@ -215,25 +215,6 @@ refused 'a night of no manifest' '--from-manifest begins at the counters of a ma
 echo 'count 1' >broken
 refused 'bad first counters' "the counters file broken: line 1: $(words_of C1)" --from broken --counters c5 "$night"
 refused 'first counters that are gone' "the counters file gone can't be read: No such file or directory" --from gone "$night"
-# programs that lie about a night: what they print for a review is changed on its way
-printf '#!/bin/bash\n[[ $1 == review ]] || exec %q "$@"\n%q "$@" >lied; status=$?\nsed -E "$LIE" lied\nexit "${LIE_STATUS:-$status}"\n' "$program" "$program" >liar
-chmod +x liar
-export LIE LIE_STATUS
-# lies WHAT LIE STATUS ARG..: such a report is refused
-lies() {
-    LIE=$2 LIE_STATUS=$3
-    keys verify --key keys/public-key.pem --ssign ./liar "${@:4}" "$night"
-    tell "a lie: $1" "$([[ $status == 2 && ! -s out ]] && grep -q 'the report of ssign review is wrong, so there is no verdict: ' err || head -c 600 out err)"
-}
-lies 'no early line' '/^early /d' 1 --from c5 --counters c6
-lies 'one early number fewer' "s/^(early .*) $last$/\\1 $((last - 1))/" 1 --from c5 --counters c6
-lies 'early in place of beyond' 's/^beyond /early /' 1 --from c3 --counters c4
-lies 'beyond numbers, and no counters' "s/^(end .*)/beyond gate signer - 7 0 0 1 1\\n\\1/" 1 --from c4
-lies 'a hole before the night' "0,/^ok /s/^(ok gate signer - 7 0 0) .*/hole gate signer - 7 0 0 1 1\\n&/" 1 --from c4 --counters c5
-lies 'a tail before the night' 's/^(end .*)/tail gate signer - 7 0 0 1 1\n\1/' 1 --from c4 --counters c5
-lies 'missing blocks before the night' 's/^unlisted/blocks gate signer - 7 0 0\n&/;s/^(end .*)/blocks gate signer - 7 0 0\n\1/' 1 --from c4 --counters c5
-lies 'status 0 with an early line' '' 0 --from c5 --counters c6
-unset LIE LIE_STATUS
 
 # ---- an archive of which each part has some of the nights
 if command -v parallel >/dev/null; then

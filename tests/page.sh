@@ -52,7 +52,7 @@ else
     echo "$name: no program is of these sources, so the script of the repository isn't tried"
 fi
 folder=$(pages member out tool.path)
-holds 'the SHA-256 of the tool' test "$(cd "$folder" && LC_ALL=C sha256sum -- *.py | sha256sum | cut -d ' ' -f 1)" = "$(pages member out tool.sha256)"
+holds 'the SHA-256 of the tool' test "$(cd "$folder" && LC_ALL=C sha256sum -- *.py */*.py | sha256sum | cut -d ' ' -f 1)" = "$(pages member out tool.sha256)"
 "$keys_program" verify --help >help
 holds 'each option is repeated, or left out on purpose' pages options help "$root/tools"
 

@@ -364,7 +364,8 @@ def answers():
     yield answering("many others", [*(b"yes %s AAA%c AAAA\n" % (field, c) for c in b"AEIMQUYcgkosw048"), *said])
     yield answering("the last LF missing", [b"".join(said)[:-1]])
     for name, bad in (("an empty line", b"\n"), ("a CR", b"trust AAAA\r\n"), ("bad base64", b"trust AAA\n"),
-                      ("spare bits", b"trust AAB=\n"), ("another word", b"trusts AAAA\n"), ("no field", b"yes"),
+                      ("spare bits", b"trust AAB=\n"), ("another word", b"trusts AAAA\n"), ("a question", b"trust? AAAA\n"),
+                      ("a question about a block", b"yes? AAAA AAAA AAAA\n"), ("no field", b"yes"),
                       ("a field too few", b"yes AAAA AAAA\n"), ("a field too many", b"seal AAAA AAAA AAAA\n"),
                       ("two spaces", b"trust  AAAA\n")):
         yield answering(name, [*said, bad], refused("A1 %d" % (len(said) + 1)))

@@ -163,8 +163,8 @@ EXAMPLES = [
 # messages, and the questions in the words of `ssign questions`
 QUESTIONS = [
     ("the questions of two blocks", [M1, M2, C, S],
-     ["trust MjAwOS0wNS0wM1QxNDowMDozOVogSyBTMFZa"]
-     + ["yes MjAwOS0wNS0wM1QxNDowMDozOVogSyBTMFZa %s AAAA" % base64.b64encode(it).decode() for it in (C_SIGNED, S_SIGNED)]),
+     ["trust? MjAwOS0wNS0wM1QxNDowMDozOVogSyBTMFZa"]
+     + ["yes? MjAwOS0wNS0wM1QxNDowMDozOVogSyBTMFZa %s AAAA" % base64.b64encode(it).decode() for it in (C_SIGNED, S_SIGNED)]),
     ("no question without a block", [M1], []),
     ("no question of a session without a payload", [C9B, S7], []),
 ]

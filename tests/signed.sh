@@ -45,7 +45,7 @@ holds 'an extract holds the messages of the ok lines' \
     cmp -- "$scratch/out" <(PYTHONPATH=$root/tests python3 -B -c "$listed" "$made/log" "$scratch/report")
 run questions <"$made/log"
 holds 'the questions: status 0' test "$status" = 0
-holds 'the questions are the answers that were made with the log' cmp -- "$scratch/out" "$made/answers"
+holds 'the questions are those of the answers that were made with the log' cmp -- "$scratch/out" <(unanswered <"$made/answers")
 
 # The end of the last block is missing
 size=$(stat -c %s -- "$made/log")

@@ -332,7 +332,7 @@ seal <"$scratch/out" >"$seals"
 run sign --wrap --answers "$seals" "${given[@]}" "${header[@]}" <"$log"
 cp -- "$scratch/out" "$scratch/signed"
 run questions <"$scratch/signed"
-cp -- "$scratch/out" "$scratch/answers"
+answered <"$scratch/out" >"$scratch/answers"
 run review --answers "$scratch/answers" <"$scratch/signed"
 holds 'a log with wraps is reviewed as clean' test "$status" = 0
 run extract --answers "$scratch/answers" <"$scratch/signed"
@@ -473,7 +473,7 @@ run sign --answers "$seals" "${given[@]}" <"$log"
 cp -- "$scratch/out" "$scratch/signed"
 expect 'it is signed' 0 'SOME TEXT' ''
 run questions <"$scratch/signed"
-cp -- "$scratch/out" "$scratch/answers"
+answered <"$scratch/out" >"$scratch/answers"
 holds 'a question for each block, and one for the payload' test "$(wc -l <"$scratch/answers")" = 10002
 run review --answers "$scratch/answers" <"$scratch/signed"
 holds 'its review finds nothing' test "$status" = 0

@@ -1,6 +1,6 @@
 #!/usr/bin/env bash
 # Questions about the log of a stranger: each payload once, payloads that are long, and certificates for each of which
-# another program would be run. What `ssign-keys answer` keeps of them is what it keeps of the plain questions.
+# another program would be run. What `ssign-keys answer` answers of them is what it answers of the plain questions.
 # shellcheck source=tests/lib.sh
 . "$(dirname -- "$0")/lib.sh"
 need_program
@@ -71,7 +71,7 @@ while IFS=$'\t' read -r what text said; do
     keys answer one/public-key.pem < <(printf '%s\n' "${text//|/$'\n'}")
     expect "wrong: $what" 2 '' "ssign-keys: $said"
 done < <(make wrong)
-holds 'each wrong text was tried' test "$count" = 30
+holds 'each wrong text was tried' test "$count" = 32
 run questions --once <log
 holds 'the program writes them so' cmp short out
 

@@ -31,7 +31,7 @@ import subprocess
 import sys
 import time
 from datetime import datetime, timedelta
-from typing import Callable, Dict, List, Optional, Tuple
+from typing import Callable, Dict, List, Optional, Set, Tuple
 
 from review_runs import frame, read_frames, read_lines
 
@@ -65,7 +65,7 @@ def escaped(octets: bytes, most: int) -> str:
     return "".join(chr(it) if 32 <= it < 127 and it != ord("\\") else "\\x%02x" % it for it in octets[:most])
 
 
-def wanted(line: str, stored: List[bytes], log: str) -> Dict[str, object]:
+def wanted(line: str, stored: List[bytes], log: str, claims: Tuple[Dict[int, Dict[str, object]], Set[int]]) -> Dict[str, object]:
     """The object for a line of a report, but for the name of a key."""
     word, *fields = line.split(" ")
     names: Dict[str, object] = {"line": word}
@@ -98,7 +98,8 @@ def wanted(line: str, stored: List[bytes], log: str) -> Dict[str, object]:
     else:
         text = stored[int(fields[0])]
         names.update(place=int(fields[0]))
-        names.update({"cause": fields[1]} if word == "spoilt" else {})
+        names.update({"cause": fields[1]} if word == "spoilt" else {"claims": claims[0].get(int(fields[0]))} if word == "refused" else
+                     {"unproved": int(fields[0]) in claims[1]})
         names.update(file=log, file_place=int(fields[0]), timestamp=stamp(text), octets=len(text),
                      text=escaped(text, 2048 if word == "unlisted" else 60))
     # docs/guide.md, "Words of a verdict"
@@ -185,6 +186,32 @@ def likely(lines: List[str]) -> Dict[str, Tuple[List[int], List[int]]]:
     return found
 
 
+BLOCK = re.compile(rb'<[0-9]+>1 \S+ (\S+) (\S+) (\S+) \S+ .*?\[ssign(?:-cert)? VER="(.{4})" RSID="(\d+)" SG="(\d)" SPRI="(\d+)" '
+                   rb'(?:GBC="(\d+)" FMN="(\d+)" CNT="(\d+)" HB="([^"]*)")?')
+
+
+def claims_in(lines: List[str], stored: List[bytes]) -> Tuple[Dict[int, Dict[str, object]], Set[int]]:
+    """Of each unverified block that claims a joined session what it would announce, and the unlisted messages with its hashes."""
+    joined = {it[8:-7] for it in lines if it.startswith("session ") and it.endswith(" joined")}
+    unlisted = [int(it.split(" ")[1]) for it in lines if it.startswith("unlisted ")]
+    found: Dict[int, Dict[str, object]] = {}
+    unproved: Set[int] = set()
+    for place in (int(it.split(" ")[1]) for it in lines if it.startswith("refused ")):
+        block = BLOCK.match(stored[place])
+        if not block or b" ".join(block.group(1, 2, 3, 5)).decode() not in joined:
+            continue
+        host, app, procid, version, rsid, sg, spri, gbc, first, count, hashes = block.groups()
+        hasher = hashlib.sha1 if version == b"0111" else hashlib.sha256
+        there = {base64.b64encode(hasher(stored[it]).digest()): it for it in reversed(unlisted)}
+        here = [there[it] for it in (hashes or b"").split() if it in there]
+        unproved.update(here)
+        names = dict(zip(("host", "app", "procid"), (it.decode() for it in (host, app, procid))), rsid=int(rsid), sg=int(sg), spri=int(spri))
+        numbers = {"gbc": int(gbc), "first": int(first), "last": int(first) + int(count) - 1} if gbc else \
+            dict.fromkeys(("gbc", "first", "last"))
+        found[place] = {**names, **numbers, "stored": len(set(here))}
+    return found, unproved
+
+
 def check_json(report: str, path: str, log: str, status: str, *options: str) -> None:
     """Compares the two line by line, in the order of the keys too."""
     with open(report, encoding="ascii") as file_of_lines, open(path, encoding="ascii") as file_of_objects:
@@ -194,13 +221,13 @@ def check_json(report: str, path: str, log: str, status: str, *options: str) -> 
     runs = with_neighbours(lines, stored)
     check_checked(objects.pop(0), log, len(stored), options)
     assert len(objects) == len(runs) + 1, (len(objects), len(runs))
-    pairs = likely(lines)
+    pairs, claims = likely(lines), claims_in(lines, stored)
     for (line, beside), it in zip(runs, objects):
         if it["line"] == "session":
             check_key(it, line.endswith(" joined"))
             front = f"ok {line[8:].rpartition(' ')[0]} "
             check_times(it, [stored[int(x.split(" ")[-1])] for x in lines if x.startswith(front)])
-        expected = wanted(line, stored, log)
+        expected = wanted(line, stored, log, claims)
         expected.update(beside)
         if line in pairs:
             count = int(str(expected["count"]))
@@ -216,6 +243,7 @@ def check_json(report: str, path: str, log: str, status: str, *options: str) -> 
     for count, word in (("listed", "ok"), ("unlisted", "unlisted"), ("unverified", "refused"), ("spoilt", "spoilt"),
                         ("damaged", "damaged")):
         assert verdict[count] == words.count(word), count
+    assert verdict["unproved"] == len(claims[1]), (verdict["unproved"], claims)
     assert verdict["damaged_octets"] == sum(int(it.split(" ")[3]) for it in lines if it.startswith("damaged "))
     assert verdict["verified"] == len(stored) - sum(map(words.count, ("ok", "unlisted", "refused", "spoilt")))
     assert verdict["missing"] == sum(it.endswith(" lost") for it in lines)
@@ -229,7 +257,7 @@ def check_json(report: str, path: str, log: str, status: str, *options: str) -> 
         missing["missing_blocks"] = in_runs(lines, "blocks")
     assert {key: verdict[key] for key in verdict if "missing_" in key} == missing, (verdict, missing)
     assert list(verdict) == ["line", "status", "review_status", "verdict", "sessions", "listed", "missing", "disputed",
-                             "unannounced", *missing, "unlisted", "verified", "unverified", "strangers", "strangers_ignored", "unbound_keys",
+                             "unannounced", *missing, "unlisted", "unproved", "verified", "unverified", "strangers", "strangers_ignored", "unbound_keys",
                              "other_keys",
                              "spoilt", *MARKED, "damaged", "damaged_octets", "torn", "groups"], list(verdict)
     # blocks of sessions that aren't joined are unverified as well
@@ -274,9 +302,9 @@ def check_key(session: Dict[str, object], is_known: bool) -> None:
     """Takes out of a session what it says of its key, which is that of the test where it is known."""
     with open("keys/public-key.pem", "rb") as file:
         der = base64.b64decode(b"".join(file.read().split(b"\n")[1:-2]))
-    key, fingerprint, certificate, payload_time, why, authority, other_key, weakness, strangers = (session.pop(it) for it in (
-        "key", "fingerprint", "certificate", "payload_time", "why", "authority", "other_key", "weakness", "strangers"))
-    assert authority is None and (other_key is None or not is_known and other_key in str(why)), (authority, other_key, why)
+    key, fingerprint, certificate, payload_time, why, authority, other_key, trust, weakness, strangers = (session.pop(it) for it in (
+        "key", "fingerprint", "certificate", "payload_time", "why", "authority", "other_key", "trust", "weakness", "strangers"))
+    assert trust is None and authority is None and (other_key is None or not is_known and other_key in str(why)), (authority, other_key, why)
     assert isinstance(strangers, int) and (strangers == 0 or session["state"] == "joined"), strangers
     assert certificate is None and weakness is None, (certificate, weakness)
     if is_known:

@@ -232,7 +232,7 @@ says 'a copy too many' 1 'Verdict: FINDINGS: of 10 announced messages 10 are pre
 damage block
 says 'a block changed' 1 '    unannounced: numbers 5 to 8 (4 messages); the blocks for them are missing or unverified' \
     'Unverified blocks (refused in a report):' '    numbers 1 to 10: 6 listed, 4 unannounced' \
-    'Verdict: FINDINGS: of 6 announced messages 6 are present and unchanged; 4 numbers are unannounced; 4 stored messages are unlisted; 1 block is unverified.'
+    'Verdict: FINDINGS: of 6 announced messages 6 are present and unchanged; 4 numbers are unannounced; 4 stored messages are unlisted (unproved: a block that isn'\''t validly signed has their hashes); 1 block is unverified.'
 as_reviewed 'a block changed' stored
 damage tail
 says 'the tail cut off behind a block' 0 'Verdict: All 8 announced messages are present and unchanged, and each other stored message is a verified block.' \
@@ -462,12 +462,12 @@ holds 'the last block: none is known to be missing' grep -Fq ',"missing_blocks":
 LC_ALL=C sed -e 's/ GBC="1" / GBC="0" /' grouped >stored
 keys verify --key keys/public-key.pem --whole stored
 says 'a block changed, in a group of its own' 1 "  missing: signature block 2 (GBC 1), $unseen_block" \
-    'Verdict: FINDINGS: of 9 announced messages 9 are present and unchanged; 1 signature block is missing or unverified, so messages may be missing without another line saying so; 1 stored message is unlisted; 1 block is unverified.'
+    'Verdict: FINDINGS: of 9 announced messages 9 are present and unchanged; 1 signature block is missing or unverified, so messages may be missing without another line saying so; 1 stored message is unlisted (unproved: a block that isn'\''t validly signed has its hash); 1 block is unverified.'
 as_reviewed 'a block changed, in a group of its own' stored --whole
 damage block
 keys verify --key keys/public-key.pem --whole stored
 says 'a block changed' 1 "  missing: signature block 2 (GBC 1), $unseen_block" \
-    'Verdict: FINDINGS: of 6 announced messages 6 are present and unchanged; 4 numbers are unannounced; 1 signature block is missing or unverified, so messages may be missing without another line saying so; 4 stored messages are unlisted; 1 block is unverified.'
+    'Verdict: FINDINGS: of 6 announced messages 6 are present and unchanged; 4 numbers are unannounced; 1 signature block is missing or unverified, so messages may be missing without another line saying so; 4 stored messages are unlisted (unproved: a block that isn'\''t validly signed has their hashes); 1 block is unverified.'
 
 # each session has its own, below its own groups
 lose 2
@@ -516,7 +516,8 @@ printf '#!/bin/sh\necho "$*" >>called\nexec %q "$@"\n' "$program" >recording
 chmod +x recording
 keys verify --key keys/public-key.pem --whole --max-len 9999 --ssign ./recording stored
 holds 'the words of ssign' cmp <(sed 's|=/[^ ]*/|=|g' called) \
-    <(printf '%s\n' --version 'review --ask=asked --answers=given --whole --in-order --max-len=9999 --salvage')
+    <(printf '%s\n' --version 'review --ask=asked --answers=given --json --whole --in-order --max-len=9999 --salvage --tally' \
+        'review --answers=answers --whole --in-order --max-len=9999 --salvage')
 printf '#!/bin/sh\nexit 2\n' >silent
 chmod +x silent
 for form in '' --json --raw; do
@@ -643,7 +644,7 @@ keys verify --key keys/public-key.pem --any-order --counters counters stored
 says 'another order, which is taken, up to counters' 0 "$other_order Nothing is missing up to the counters."
 damage block
 keys verify --key keys/public-key.pem --counters counters stored
-says 'a block changed, up to counters' 1 'Verdict: FINDINGS: of 6 announced messages 6 are present and unchanged; 4 numbers are unannounced; 1 signature block is missing or unverified, so messages may be missing without another line saying so; 4 stored messages are unlisted; 1 block is unverified.'
+says 'a block changed, up to counters' 1 'Verdict: FINDINGS: of 6 announced messages 6 are present and unchanged; 4 numbers are unannounced; 1 signature block is missing or unverified, so messages may be missing without another line saying so; 4 stored messages are unlisted (unproved: a block that isn'\''t validly signed has their hashes); 1 block is unverified.'
 as_reviewed 'a block changed, up to counters' stored --counters counters
 
 # groups by PRI, of which each block has one message. GBC: 0 has PRI 34, 1 has 38, 2 has 86, 3 has 78, 4 has 85, 5 has
@@ -715,7 +716,7 @@ says 'a session that is not here' 1 'Session: HOSTNAME gate, APP-NAME signer, PR
 as_reviewed 'a session that is not here' signed --counters counters
 keys verify --key keys/public-key.pem --json --counters counters signed
 holds 'a session that is not here: its object' grep -Fqx \
-    '{"line":"session","host":"gate","app":"signer","procid":"-","rsid":2,"state":"absent","key":null,"fingerprint":null,"certificate":null,"payload_time":null,"why":null,"authority":null,"other_key":null,"weakness":null,"strangers":0,"first_timestamp":null,"last_timestamp":null}' out
+    '{"line":"session","host":"gate","app":"signer","procid":"-","rsid":2,"state":"absent","key":null,"fingerprint":null,"certificate":null,"payload_time":null,"why":null,"authority":null,"other_key":null,"trust":null,"weakness":null,"strangers":0,"first_timestamp":null,"last_timestamp":null}' out
 holds 'a session that is not here: how many' grep -Fq '"sessions":{"absent":1,"joined":1},' out
 kept '1 3' '1 0 0 11' '2 0'
 keys verify --key keys/public-key.pem --counters counters signed
@@ -794,7 +795,7 @@ rm called
 keys verify --key keys/public-key.pem --counters counters.1 --max-len 9999 --ssign ./recording signed
 says 'the words of ssign with --counters: the verdict' 0 "$all_there Nothing is missing up to the counters."
 holds 'the words of ssign with --counters' cmp <(sed 's|=/[^ ]*/|=|g' called) \
-    <(printf '%s\n' --version 'review --counters=counters' 'review --ask=asked --answers=given --counters=counters --in-order --max-len=9999 --salvage')
+    <(printf '%s\n' --version 'review --counters=counters' 'review --ask=asked --answers=given --json --counters=counters --in-order --max-len=9999 --salvage --tally')
 
 # ---- what no block signed, and hostile texts
 for it in logger rsyslog syslog-ng; do

@@ -9,7 +9,7 @@ from .help import Command, Option, Program
 FILES = ("FILE", "IN", "LOG", "PROGRAM", "PUBLIC.pem", "PRIVATE.pem", "CA.pem", "CERT.pem")
 FOLDERS = ("ARCHIVE", "DIR", "FOLDER")
 # options that may be given several times
-REPEATED = ("--place", "--key", "--session-key", "--ca", "--ca-anchor", "--cert", "--sshlogin")
+REPEATED = ("--accept", "--match", "--place", "--key", "--session-key", "--ca", "--ca-anchor", "--cert", "--sshlogin")
 NOTE = "Made by tools/make-pages from what --help says."
 
 
@@ -22,6 +22,11 @@ def kind(value: str) -> str:
 def quoted(text: str) -> str:
     """A word in single quotes, for bash and zsh."""
     return "'" + text.replace("'", "'\\''") + "'"
+
+
+def escaped(words: Iterable[str]) -> str:
+    """Words that a shell reads once more: no word is a pattern of file names there."""
+    return " ".join(it.replace("?", "\\?") for it in words)
 
 
 def argument_kind(command: Command) -> str:
@@ -135,7 +140,7 @@ def bash(program: Program) -> str:
     words.append(f"    help) _{name}_offer words {quoted(' '.join(it.name for it in program.commands))} ;;")
     seconds = [line for it in program.commands for line in bash_second(name, it)]
     return BASH.format(
-        note=NOTE, program=program.name, name=name, codes=quoted(" ".join(program.codes)),
+        note=NOTE, program=program.name, name=name, codes=quoted(escaped(program.codes)),
         first=quoted(" ".join(first_words(program) + [it.name for it in program.options])),
         seconds="\n".join(seconds or ["    *) ;;"]),
         values="\n".join(line for it in program.commands for line in bash_options(name, it)), words="\n".join(words))
@@ -158,7 +163,7 @@ def zsh_action(option_or_kind: str, choices: Sequence[str], codes: Iterable[str]
     """What completes a value."""
     if choices:
         return f"({' '.join(choices)})"
-    return {"files": "_files", "folders": "_files -/", "codes": f"({' '.join(codes)})"}.get(option_or_kind, " ")
+    return {"files": "_files", "folders": "_files -/", "codes": f"({escaped(codes)})"}.get(option_or_kind, " ")
 
 
 def zsh_option(option: Option, codes: Iterable[str]) -> str:
@@ -245,7 +250,7 @@ def fish_command(program: Program, command: Command) -> List[str]:
         made += [f"complete -c {name} -n {fish_quoted(f'{function} {command.name}; and {function}_second {it.name}')} -F"
                  for it in command.options if len(it.values) == 2 and kind(it.values[1]) == "files"]
     elif argument == "codes":
-        made.append(f"complete -c {name} -n {condition} -a {fish_quoted(' '.join(program.codes))}")
+        made.append(f"complete -c {name} -n {condition} -a {fish_quoted(escaped(program.codes))}")
     return made
 
 

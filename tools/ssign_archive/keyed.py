@@ -47,7 +47,7 @@ def ask(settings: Settings, trust: Trust, reader: Reader, workplace: Workplace) 
         with workplace.new_file("answers") as file, answers(asking.lines(lambda: None), trust, 1) as answered:
             for it in answered:
                 put(file, it.line)
-                block = read_block(decode(it.line.split(b" ")[2]) or b"") if it.is_block else None
+                block = read_block(decode(it.line.split(b" ")[2]) or b"") if it.line.startswith(b"yes ") else None
                 if block is not None and block.version == SHA1:
                     weak[str(block.session)] = None
             finish(file)

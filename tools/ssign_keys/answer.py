@@ -1,17 +1,18 @@
-"""Answers what a review asks about keys and signatures: keeps those lines of `ssign questions` that hold."""
+"""Answers what a review asks about keys and signatures: writes the answers to those lines of `ssign questions` that hold."""
 from __future__ import annotations
 
 import argparse
 from dataclasses import dataclass
 from types import TracebackType
-from typing import Generator, Iterable, Iterator, List, NamedTuple, Optional, Type
+from typing import Generator, Iterable, Iterator, List, NamedTuple, Optional, Tuple, Type
 
 from . import trust as trusts
+from .asked import About, PayloadText
 from .blocks import Session
 from .checking import Held
 from .commands import PROCESSES, SECONDS
 from .faults import Fault
-from .identity import Finding
+from .identity import UNKNOWN, Finding
 from .numbers import add_jobs
 from .processes import Workers
 from .questions import Line, Reader
@@ -22,19 +23,19 @@ from .workplace import notify
 
 
 class Answered(NamedTuple):
-    """A line that holds, or what is to be said of a `trust` line that doesn't."""
+    """The answer to a line that holds, or what is to be said of one that doesn't: a `trust?` line, or one about a block that
+    ssign described."""
 
     line: bytes
     """The line `trust PAYLOAD` or `yes PAYLOAD OCTETS SIGNATURE` with its LF; empty where it doesn't hold."""
     session: Optional[Session]
-    """The session that it is asked for; None for a `trust` line after which no block of that payload is asked about."""
+    """The session that it is asked for; None for a `trust?` line after which no block of that payload is asked about."""
     finding: Finding
     """Whose key it is, or why none is trusted."""
-
-    @property
-    def is_block(self) -> bool:
-        """Whether it is a `yes` line."""
-        return self.line.startswith(b"yes ")
+    about: Optional[About] = None
+    """What ssign read in the block; None for a payload, and where the question doesn't state it."""
+    unproved: Optional[Tuple[bytes, bytes]] = None
+    """Of a signature block under a trusted payload that isn't validly signed: the payload, and what an answer has after it."""
 
 
 @dataclass
@@ -74,22 +75,24 @@ class Counts:
 
 
 class Answers(Iterator[Answered]):
-    """The lines that hold, in their order. `counts` is complete once they were all taken.
+    """The answers to the lines that hold, in their order. `counts` is complete once they were all taken.
 
     Used with `with`, or ended by `close`, it leaves no process running, wherever the taking stopped.
     """
 
-    def __init__(self, lines: Iterable[bytes], trust: Trust, jobs: int) -> None:
+    def __init__(self, lines: Iterable[bytes], trust: Trust, jobs: int, are_objects: bool) -> None:
         """Takes no line yet."""
         self.counts = Counts()
-        self._taken = self._take(lines, trust, jobs)
+        # the payload of the last `trust` line, if that holds
+        self._trusted: Optional[PayloadText] = None
+        self._taken = self._take(lines, trust, jobs, are_objects)
 
     def __iter__(self) -> Answers:
         """Itself."""
         return self
 
     def __next__(self) -> Answered:
-        """The next line that holds."""
+        """The answer to the next line that holds."""
         return next(self._taken)
 
     def __enter__(self) -> Answers:
@@ -105,9 +108,9 @@ class Answers(Iterator[Answered]):
         """Ends the processes that check signatures."""
         self._taken.close()
 
-    def _take(self, lines: Iterable[bytes], trust: Trust, jobs: int) -> Generator[Answered, None, None]:
-        """The lines that hold. Raises Fault at the first that is no question."""
-        workers, reader = Workers(trust, jobs), Reader(trust.longest)
+    def _take(self, lines: Iterable[bytes], trust: Trust, jobs: int, are_objects: bool) -> Generator[Answered, None, None]:
+        """The answers to the lines that hold. Raises Fault at the first that is no question."""
+        workers, reader = Workers(trust, jobs), Reader(trust.longest, are_objects)
         self.counts.most = trust.longest
         try:
             for asked, checked in workers.check(reader.chunks(lines)):
@@ -123,19 +126,24 @@ class Answers(Iterator[Answered]):
             workers.close()
 
     def _answer(self, line: Line, held: Optional[Held]) -> Iterator[Answered]:
-        """A line, where it holds or something is to be said of it."""
+        """The answer to a line, where it holds or something is to be said of it."""
         is_so = held is not None and held.is_so
         self.counts.add(line, is_so)
+        about, session, payload = line.asked.about, line.asked.session, line.asked.payload
+        if not line.asked.is_block:
+            self._trusted = payload if is_so else None
         if held:
-            yield Answered(line.text if is_so else b"", held.session, held.finding)
+            yield Answered(line.text if is_so else b"", held.session, held.finding, about)
+        elif about is not None and about.gbc is not None and payload is self._trusted and payload.text is not None:
+            yield Answered(b"", session, UNKNOWN, about, (payload.text, line.asked.rest))
 
 
-def answers(lines: Iterable[bytes], trust: Trust, jobs: int = 1) -> Answers:
-    """Answers lines of `ssign questions`, each with its LF, by so many processes.
+def answers(lines: Iterable[bytes], trust: Trust, jobs: int = 1, are_objects: bool = False) -> Answers:
+    """Answers lines of `ssign questions`, each with its LF, by so many processes; or those of `ssign review --ask --json`.
 
     No more lines are held at once than a few chunks. Raises Fault, while lines are taken, at one that is no question.
     """
-    return Answers(lines, trust, jobs)
+    return Answers(lines, trust, jobs, are_objects)
 
 
 def add_arguments(parser: argparse.ArgumentParser) -> None:
@@ -147,7 +155,7 @@ def add_arguments(parser: argparse.ArgumentParser) -> None:
 
 
 def run(arguments: argparse.Namespace) -> int:
-    """Writes those lines of standard input that hold. Status 1 where payloads are asked about and none is trusted."""
+    """Writes the answers to the lines of standard input that hold. Status 1 if payloads are asked about and none is trusted."""
     trust = Trust.from_arguments(arguments)
     with Output() as output, answers(input_lines(), trust, arguments.jobs) as held:
         for answered in held:

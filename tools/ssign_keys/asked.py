@@ -1,11 +1,15 @@
 """Reads single lines of questions, in each form in which `ssign questions` writes them (docs/FORMATS.md, "Questions")."""
 from __future__ import annotations
 
-from typing import List, NamedTuple, Optional, Protocol, Tuple
+import json
+from typing import Any, Dict, List, NamedTuple, Optional, Protocol, Tuple
 
+from .blocks import Session
 from .encoding import is_base64
 from .faults import Fault
 
+# how lines of questions begin; the lines of an answers file have these words without the question mark
+TRUST, YES = b"trust?", b"yes?"
 # no log has so many sessions
 MOST_DIGITS = 10
 
@@ -20,14 +24,29 @@ class PayloadText:
         self.is_counted = False
 
 
+class About(NamedTuple):
+    """What ssign read in a block."""
+
+    place: int
+    version: bytes
+    group: Tuple[int, int]
+    """SG and SPRI."""
+    gbc: Optional[int]
+    """The counter of a signature block; None for a certificate block."""
+
+
 class Asked(NamedTuple):
     """A question."""
 
     is_block: bool
-    """Whether it is a `yes` line."""
+    """Whether it is a `yes?` line."""
     payload: PayloadText
     rest: bytes
-    """Of a `yes` line OCTETS SIGNATURE; else empty."""
+    """Of a `yes?` line OCTETS SIGNATURE; else empty."""
+    session: Optional[Session] = None
+    """None where the line doesn't state it."""
+    about: Optional[About] = None
+    """The same for a block."""
 
 
 class Form(Protocol):
@@ -44,7 +63,12 @@ def decoded_length(text: bytes) -> int:
 
 def no_question(number: int) -> str:
     """The sentence for a line that is no question."""
-    return f"line {number} is no line `trust PAYLOAD` or `yes PAYLOAD OCTETS SIGNATURE` of ssign questions"
+    return f"line {number} is no line `trust? PAYLOAD` or `yes? PAYLOAD OCTETS SIGNATURE` of ssign questions"
+
+
+def no_object(number: int) -> str:
+    """The sentence for a line that is no object of questions."""
+    return f"line {number} is no object `payload`, `trust?` or `yes?` of ssign review --ask --json"
 
 
 def payload_of(text: bytes, most: int, number: int) -> PayloadText:
@@ -56,7 +80,7 @@ def payload_of(text: bytes, most: int, number: int) -> PayloadText:
 
 
 class Plain:
-    """`trust PAYLOAD` and `yes PAYLOAD OCTETS SIGNATURE`: each question has its payload."""
+    """`trust? PAYLOAD` and `yes? PAYLOAD OCTETS SIGNATURE`: each question has its payload."""
 
     def __init__(self, most: int) -> None:
         """Looks at payloads of so many octets at most."""
@@ -68,23 +92,23 @@ class Plain:
     def read(self, line: bytes, number: int) -> Optional[Asked]:
         """The question of a line."""
         end = len(line) - line.endswith(b"\n")
-        start = line.find(b" ", 0, 6) + 1
+        start = line.find(b" ", 0, len(TRUST) + 1) + 1
         word = line[:max(start - 1, 0)]
-        if word not in (b"trust", b"yes"):
+        if word not in (TRUST, YES):
             raise Fault(no_question(number))
         after = line.find(b" ", start, end)
-        if (after >= 0) != (word == b"yes"):
+        if (after >= 0) != (word == YES):
             raise Fault(no_question(number))
         after = end if after < 0 else after
         if not (self._text and after - start == len(self._text) and line.startswith(self._text, start)):
             text = line[start:after]
             self._payload = payload_of(text, self._most, number)
             self._text = text
-        return Asked(word == b"yes", self._payload, line[after + 1:end])
+        return Asked(word == YES, self._payload, line[after + 1:end])
 
 
 class Once:
-    """`payload INDEX PAYLOAD`, then `trust INDEX` and `yes INDEX OCTETS SIGNATURE`: each payload stands once."""
+    """`payload INDEX PAYLOAD`, then `trust? INDEX` and `yes? INDEX OCTETS SIGNATURE`: each payload stands once."""
 
     def __init__(self, most: int) -> None:
         """Looks at payloads of so many octets at most."""
@@ -101,7 +125,45 @@ class Once:
             return None
         if index >= len(self._payloads):
             raise Fault(f"line {number}: no payload with the index {index} stands before it")
-        return Asked(word == b"yes", self._payloads[index], rest)
+        return Asked(word == YES, self._payloads[index], rest)
+
+
+class Objects:
+    """The same as objects of JSON, which also have what ssign read in each block."""
+
+    def __init__(self, most: int) -> None:
+        """Looks at payloads of so many octets at most."""
+        self._most = most
+        self._payloads: List[PayloadText] = []
+
+    def read(self, line: bytes, number: int) -> Optional[Asked]:
+        """The question of a line, or None where it states a payload."""
+        try:
+            fields: Dict[str, Any] = json.loads(line)
+            if fields["line"] == "payload":
+                self._payloads.append(payload_of(fields["payload"].encode("ascii"), self._most, number))
+                return None
+            word = fields["line"].encode("ascii")
+            if word not in (TRUST, YES):
+                raise Fault(no_object(number))
+            payload, session = self._payloads[fields["payload_index"]], session_of(fields)
+            if word == TRUST:
+                return Asked(False, payload, b"", session)
+            rest = f"{fields['octets']} {fields['signature']}".encode("ascii")
+            return Asked(True, payload, rest, session, about_of(fields))
+        except (ValueError, KeyError, IndexError, TypeError, AttributeError) as fault:
+            raise Fault(no_object(number)) from fault
+
+
+def session_of(fields: Dict[str, Any]) -> Session:
+    """The session that an object of JSON names."""
+    host, app, procid, rsid = (str(fields[it]).encode("ascii") for it in ("host", "app", "procid", "rsid"))
+    return Session(host, app, procid, rsid)
+
+
+def about_of(fields: Dict[str, Any]) -> About:
+    """What ssign read in the block that a question is about."""
+    return About(fields["place"], fields["ver"].encode("ascii"), (fields["sg"], fields["spri"]), fields.get("gbc"))
 
 
 def split(line: bytes, number: int) -> Tuple[bytes, int, bytes]:
@@ -112,6 +174,7 @@ def split(line: bytes, number: int) -> Tuple[bytes, int, bytes]:
     word, has_rest = line[:max(start - 1, 0)], after >= 0
     digits = line[start:after if has_rest else min(end, start + MOST_DIGITS + 1)]
     is_right = digits.isdigit() and len(digits) <= MOST_DIGITS and (digits == b"0" or not digits.startswith(b"0"))
-    if word not in (b"payload", b"trust", b"yes") or has_rest != (word != b"trust") or not is_right:
-        raise Fault(f"line {number} is no line of ssign questions --once, as those above it are")
+    if word not in (b"payload", TRUST, YES) or has_rest != (word != TRUST) or not is_right:
+        raise Fault(f"line {number} is no line `payload INDEX PAYLOAD`, `trust? INDEX` or `yes? INDEX OCTETS SIGNATURE` of "
+                    "ssign questions --once, as those above it are")
     return word, int(digits), line[after + 1:end] if has_rest else b""

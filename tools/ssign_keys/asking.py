@@ -22,7 +22,7 @@ from .workplace import Workplace
 PIECE = 1 << 16
 # so many seconds pass until it is looked at again whether a run waits for its answers
 MOMENT = 0.001
-LAST = b"end\n"
+LAST = b'{"line":"end"}\n'
 EARLY = "ssign asks or waits for answers too early"
 
 
@@ -37,7 +37,7 @@ class Asking(contextlib.ExitStack):
         with opened(self._log, "rb") as log:
             self._fed = self.enter_context(opened(self._log, "wb"))
             os.set_blocking(log.fileno(), True)
-            words = ["review", f"--ask={questions}", f"--answers={self._answers}", *words]
+            words = ["review", f"--ask={questions}", f"--answers={self._answers}", "--json", *words]
             self._run = Run(program, words, workplace, progress, log, report)
         # open as soon as the run waits for the answers
         self._given: Optional[BinaryIO] = None
@@ -49,7 +49,7 @@ class Asking(contextlib.ExitStack):
         self._write("the log", self._log, self._fed, pieces, [self._asked.fileno()])
 
     def questions(self) -> Iterator[bytes]:
-        """The lines of questions, each with its LF. Raises Refused or Fault where the run doesn't come to the line `end`."""
+        """The objects of questions, each with its LF. Raises Refused or Fault where the run doesn't come to the one that is the end."""
         for line in self._lines():
             if line == LAST:
                 return

@@ -10,7 +10,7 @@ from dataclasses import dataclass, field, replace
 from typing import AbstractSet, BinaryIO, Dict, Iterable, Iterator, List, Optional, Set, Tuple
 
 from .answer import Answered
-from .blocks import ANNOUNCING, Session, read_block
+from .blocks import Session
 from .encoding import decode
 from .fragments import covers, read_fragment
 from .identity import Finding, Identity, finding_of, note_of
@@ -18,8 +18,6 @@ from .words import shown_name
 from .workplace import put
 
 GroupName = Tuple[int, int]
-# so many letters of base64 have the header of most messages, and what follows it
-FRONT = 1200
 UNSIGNED = Finding(None, "no whole payload was found in it that one of your keys signed")
 
 
@@ -32,8 +30,6 @@ class BlockFacts:
     """The greatest GBC of each group."""
     versions: Set[str] = field(default_factory=set)
     """Each VER."""
-    valid: int = 0
-    """How many of its blocks, certificate blocks too, are validly signed."""
     extents: Set[Tuple[int, int]] = field(default_factory=set)
     """Of its payload, the index and the length of each fragment that is validly signed."""
     length: int = 0
@@ -44,25 +40,19 @@ class BlockFacts:
         """Whether validly signed fragments have all of the payload."""
         return self.length > 0 and covers(self.extents, self.length)
 
-    def add(self, line: bytes) -> None:
-        """Takes a `yes` line into account. A certificate block that doesn't agree with the payload vouches for nothing."""
-        _, payload, text, _ = line.split(b" ")
-        # most signature blocks have it in their front, which is a fifth of one
-        for length in (FRONT, len(text)):
-            octets = decode(text[:length]) or b""
-            block = read_block(octets)
-            announcing = block and ANNOUNCING.match(octets, block.end)
-            if block and announcing:
-                sg, spri, gbc = map(int, announcing.group(1, 2, 3))
-                self.versions.add(block.version.decode("ascii"))
-                self.greatest[sg, spri] = max(gbc, self.greatest.get((sg, spri), 0))
-                self.valid += 1
-                return
-        fragment, joined = read_fragment(octets), decode(payload) or b""
+    def add(self, it: Answered) -> None:
+        """Takes a validly signed block into account. A certificate block that doesn't agree with the payload vouches for nothing."""
+        about = it.about
+        assert about is not None
+        if about.gbc is not None:
+            self.versions.add(about.version.decode("ascii"))
+            self.greatest[about.group] = max(about.gbc, self.greatest.get(about.group, 0))
+            return
+        _, payload, text, _ = it.line.split(b" ")
+        fragment, joined = read_fragment(decode(text) or b""), decode(payload) or b""
         if fragment is not None and fragment.agrees(joined):
             self.extents.add((fragment.piece[1], len(fragment.piece[2])))
             self.length = len(joined)
-            self.valid += 1
 
 
 def noted(answered: Iterable[Answered], notes: BinaryIO) -> Iterator[Answered]:
@@ -75,15 +65,15 @@ def noted(answered: Iterable[Answered], notes: BinaryIO) -> Iterator[Answered]:
     kept: Optional[BlockFacts] = None
     facts: Optional[BlockFacts] = None
     for it in answered:
-        if it.session != session or not it.is_block:
+        if it.session != session or it.about is None:
             kept, facts = better(kept, facts), None
             if it.session != session:
                 put_note(notes, session, kept)
                 session, kept = it.session, None
-        if not it.line.startswith(b"trust "):
+        if (it.about is not None) == bool(it.line):
             facts = facts or BlockFacts(it.finding)
-            if it.is_block:
-                facts.add(it.line)
+            if it.about is not None:
+                facts.add(it)
         yield it
     put_note(notes, session, better(kept, facts))
 
@@ -97,16 +87,18 @@ def better(kept: Optional[BlockFacts], facts: Optional[BlockFacts]) -> Optional[
     if not kept.claims:
         return facts
     one, other = kept.finding.identity, facts.finding.identity
-    return kept if one is None or other is None else replace(kept, finding=Finding(None, two_payloads(one, other)))
+    if one is None or other is None:
+        return kept
+    act = "--session-key says which is its key" if kept.finding.by_line is None else "end one of them in the trust file"
+    return replace(kept, finding=Finding(None, two_payloads(one, other, act)))
 
 
-def two_payloads(one: Identity, other: Identity) -> str:
-    """Why no key is that of a session for which two payloads are validly signed."""
+def two_payloads(one: Identity, other: Identity, act: str) -> str:
+    """Why no key is that of a session for which two payloads are validly signed, and what to do about two keys."""
     if one.fingerprint == other.fingerprint:
         return (f"the key {shown_name(one.file)} signed two payloads for it, {stamp_words(one.stamp)} and "
                 f"{stamp_words(other.stamp)}: its RSID was used twice")
-    return (f"two of your keys signed a payload for it, {shown_name(one.file)} and {shown_name(other.file)}: --session-key says "
-            "which is its key")
+    return (f"two of your keys signed a payload for it, {shown_name(one.file)} and {shown_name(other.file)}: {act}")
 
 
 def stamp_words(stamp: str) -> str:
@@ -120,7 +112,7 @@ def put_note(notes: BinaryIO, session: Optional[Session], facts: Optional[BlockF
         return
     groups = [[*group, gbc] for group, gbc in facts.greatest.items()]
     names = [it.decode("latin-1") for it in session]
-    put(notes, json.dumps([names, note_of(facts.finding), groups, sorted(facts.versions), facts.valid]).encode("ascii") + b"\n")
+    put(notes, json.dumps([names, note_of(facts.finding), groups, sorted(facts.versions)]).encode("ascii") + b"\n")
 
 
 class Notes:
@@ -144,8 +136,8 @@ class Notes:
         line = self._notes.readline()
         if not line:
             return None
-        names, note, groups, versions, valid = json.loads(line)
+        names, note, groups, versions = json.loads(line)
         host, app, procid, rsid = (str(it).encode("latin-1") for it in names)
         rows: List[List[int]] = groups
         return Session(host, app, procid, rsid), BlockFacts(finding_of(note), {(sg, spri): gbc for sg, spri, gbc in rows},
-                                                   set(versions), valid)
+                                                   set(versions))

@@ -15,10 +15,6 @@ FIRST_ELEMENT = re.compile(FRONT)
 # After the header nothing but an element begins so: in a value each `"` and `]` is escaped, no name of an element or a
 # parameter holds `]`, and MSG stands after the elements.
 LATER_ELEMENT = re.compile(rb"\]" + FRONT)
-# what follows RSID in the element of a signature block, and of a certificate block (RFC 5848, sections 4.2 and 5.3.2)
-GROUP = rb'SG="([0-3])" SPRI="([0-9]{1,3})" '
-ANNOUNCING = re.compile(GROUP + rb'GBC="([0-9]{1,10})" FMN="([0-9]{1,10})" CNT="([0-9]{1,2})" ')
-CARRYING = re.compile(GROUP + rb'TPBL="')
 
 
 class Session(NamedTuple):

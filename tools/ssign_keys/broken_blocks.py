@@ -14,7 +14,7 @@ from typing import BinaryIO, Iterator, NamedTuple, Optional, Sequence
 from .logs import Log
 from .programs import Run
 from .progress import Progress
-from .report import number_of, wrong
+from .report import wrong
 from .words import grouped
 from .workplace import Workplace
 
@@ -122,14 +122,14 @@ class Search:
                 if [word, *fields] != [b"end", b"%d" % index] or inspected.read(1):
                     break
                 return broken
-            if not fields or number_of(fields[0]) != index:
+            if not fields or int(fields[0]) != index:
                 break
             if word == b"plain":
                 broken.ordinary += 1
                 if broken.first_ordinary is None:
                     broken.first_ordinary = self._places[index]
             elif word == b"unparsed" and len(fields) == 3:
-                self._take(broken, index, fields[1].decode("ascii", "replace"), number_of(fields[2]))
+                self._take(broken, index, fields[1].decode("ascii", "replace"), int(fields[2]))
             else:
                 raise wrong(f"the message at place {self._places[index]} is unlisted there, and a block of ssign inspect")
         raise wrong("ssign inspect doesn't say of each message what it is")

@@ -24,9 +24,13 @@ class Question(NamedTuple):
     payload: int
     """Which of the chunk's payloads."""
     is_block: bool
-    """Whether it is a `yes` line."""
+    """Whether it is a `yes?` line."""
     rest: bytes
-    """What stands after the payload of a `yes` line: OCTETS SIGNATURE."""
+    """What stands after the payload of a `yes?` line: OCTETS SIGNATURE."""
+    session: Optional[Session] = None
+    """None where the line doesn't state it."""
+    version: Optional[bytes] = None
+    """VER of a block; None where the line doesn't state it."""
 
 
 class ChunkPayload(NamedTuple):
@@ -49,7 +53,7 @@ class Chunk:
 
 
 class Held(NamedTuple):
-    """What is known of a question that holds, or of a `trust` line that doesn't."""
+    """What is known of a question that holds, or of a `trust?` line that doesn't."""
 
     session: Optional[Session]
     finding: Finding
@@ -79,7 +83,9 @@ def is_block_part(rest: bytes) -> bool:
 
 
 def block_of(question: Question, octets: bytes) -> Block:
-    """What the octets of the block say that a `yes` line asks about."""
+    """The VER and the session of the block that a `yes?` line asks about: those of the line, or else of its octets."""
+    if question.session is not None and question.version is not None:
+        return Block(question.version, question.session, 0)
     block = read_block(octets)
     if not block:
         raise Fault(f"line {question.line_number}: the octets are no block of VER {VERSIONS}")
@@ -128,7 +134,7 @@ class Checker:
 
 
 def check_block(trust: Trust, question: Question, payload: Optional[bytes]) -> Optional[Held]:
-    """Whether a `yes` line holds. Raises Fault where it is no question."""
+    """Whether a `yes?` line holds. Raises Fault where it is no question."""
     text, _, spelled = question.rest.partition(b" ")
     # each text is decoded once, but one that isn't looked at, or is too long, isn't held
     octets = decode(text) if payload else None
@@ -147,9 +153,9 @@ def check_block(trust: Trust, question: Question, payload: Optional[bytes]) -> O
 
 def check_payload(trust: Trust, question: Question, payload: Optional[bytes],
                   following: Sequence[Question]) -> Optional[Held]:
-    """Whether a `trust` line holds: for the session of the block that is asked about after it."""
-    session: Optional[Session] = None
-    if following and following[0].is_block and following[0].payload == question.payload:
+    """Whether a `trust?` line holds: for the session of the block that is asked about after it."""
+    session = question.session
+    if session is None and following and following[0].is_block and following[0].payload == question.payload:
         if not is_block_part(following[0].rest):
             raise Fault(no_question(following[0].line_number))
         session = block_of(following[0], decode(following[0].rest.partition(b" ")[0]) or b"").session

@@ -14,6 +14,7 @@ TOOL = usage.Tool(
         "sign": "sign a log with a private key",
         "live": "sign messages as they come, for ever, and go on after any stop",
         "verify": "say what a signed log proves, with the originator's public key",
+        "check": "check all signed files of originators, and whether what was seen is still there",
         "manifest": "keep a list of signed logs, and check logs against it",
         "stamp": "have a time stamp service sign when counters or a manifest existed",
         "rotated": "sign rotated logs, and keep what a later review needs of each",
@@ -25,6 +26,7 @@ TOOL = usage.Tool(
         "make": ("mkdir -m 700 keys && ssign-keys make keys",),
         "sign": (
             "ssign-keys sign --key keys/private-key.pem --app signer messages.log > signed.frames",
+            "ssign-keys sign --key keys/private-key.pem --folder /var/log/signed",
             "ssign-keys sign --key keys/private-key.pem --state session --new-session --host gate monday.log > monday.frames",
             "ssign-keys sign --key keys/private-key.pem --state session tuesday.log > tuesday.frames",
         ),
@@ -32,6 +34,7 @@ TOOL = usage.Tool(
             "ssign-keys live --key keys/private-key.pem --state /var/lib/ssign/live --out /var/log/signed --lines < pipe",
         ),
         "verify": ("ssign-keys verify --key keys/public-key.pem signed.frames",),
+        "check": ("ssign-keys check /srv/logs --trust /etc/ssign/trust --memory /var/lib/ssign-check --expect 26h",),
         "manifest": (
             "ssign-keys manifest add manifest signed.frames --counters counters",
             "ssign-keys manifest check manifest /srv/logs --logs '*.frames'",

@@ -168,15 +168,21 @@ def expanded_zstd(name: str, packed: BinaryIO, workplace: Workplace) -> Iterator
                 "apt-get install zstd"
             ) from error
         assert child.stdout is not None
-        with child.stdout as out:
-            while True:
-                # how long all of it takes, the log decides
-                if not select.select([out], [], [], commands.PATIENCE)[0]:
-                    raise silent(name)
-                piece = os.read(out.fileno(), PIECE)
-                if not piece:
-                    break
-                yield piece
+        try:
+            with child.stdout as out:
+                while True:
+                    # how long all of it takes, the log decides
+                    if not select.select([out], [], [], commands.PATIENCE)[0]:
+                        raise silent(name)
+                    piece = os.read(out.fileno(), PIECE)
+                    if not piece:
+                        break
+                    yield piece
+        except GeneratorExit:
+            # only its front is wanted
+            child.kill()
+            child.wait()
+            raise
         try:
             status = child.wait(commands.PATIENCE)
         except subprocess.TimeoutExpired as error:

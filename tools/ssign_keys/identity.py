@@ -33,6 +33,17 @@ class Identity(NamedTuple):
     """The SHA-256 of the file, if it is that of an authority; empty for a key or a certificate that was given."""
 
 
+class ByLine(NamedTuple):
+    """What a trust file answers about a key."""
+
+    answer: str
+    """`trusted`, `untrusted`, `revoked`, `expired` or `early`."""
+    line: Optional[int]
+    """The number of the line that counts; None where no line names the key for the session."""
+    words: str
+    """A sentence without its full stop: which line it is, and by which time it was judged."""
+
+
 class Finding(NamedTuple):
     """What was found about the key of a session: whose it is, or else why none is trusted."""
 
@@ -42,6 +53,8 @@ class Finding(NamedTuple):
     other_key: str = ""
     """The fingerprint of the key that the payload states, if the reviewer gave others for the session, and this isn't one of them.
     Anybody can state any key."""
+    by_line: Optional[ByLine] = None
+    """The same as the trust file answers it, where one is given."""
 
 
 UNKNOWN = Finding(None, "")
@@ -58,6 +71,8 @@ def identity_lines(finding: Finding) -> List[str]:
             lines.append(f"certificate: {certificate_words(certificate)}")
         if authority:
             lines.append(f"authority: {file_words(file, authority)}")
+        if finding.by_line is not None:
+            lines.append(f"trust: {finding.by_line.words}")
         lines.append("payload: states no time" if stamp == "-" else f"payload: of {stamp}, as its signer states")
     if finding.why:
         lines.append(f"why: {finding.why}")
@@ -72,7 +87,7 @@ def identity_fields(finding: Finding) -> Dict[str, object]:
         "key": shown_name(identity.file) if identity else None, "fingerprint": identity.fingerprint if identity else None,
         "certificate": facts, "payload_time": identity.stamp if identity else None, "why": finding.why or None,
         "authority": {"file": shown_name(identity.file), "sha256": identity.authority} if identity and identity.authority else None,
-        "other_key": finding.other_key or None,
+        "other_key": finding.other_key or None, "trust": finding.by_line and finding.by_line._asdict(),
     }
 
 
@@ -94,17 +109,20 @@ def certificate_words(certificate: CertificateFacts) -> str:
 
 def note_of(finding: Finding) -> List[object]:
     """A finding as JSON holds it, for `finding_of`."""
-    identity = finding.identity
+    identity, by_line = finding.identity, finding.by_line and list(finding.by_line)
     if identity is None:
-        return [None, finding.why, finding.other_key]
+        return [None, finding.why, finding.other_key, by_line]
     certificate = identity.certificate and list(identity.certificate)
-    return [[identity.file, identity.fingerprint, certificate, identity.stamp, identity.authority], finding.why, finding.other_key]
+    return [[identity.file, identity.fingerprint, certificate, identity.stamp, identity.authority], finding.why, finding.other_key,
+            by_line]
 
 
 def finding_of(note: Any) -> Finding:
     """The finding of which `note_of` made this."""
-    identity, why, other_key = note
+    identity, why, other_key, line = note
+    by_line = line and ByLine(*line)
     if identity is None:
-        return Finding(None, why, other_key)
+        return Finding(None, why, other_key, by_line)
     file, fingerprint, certificate, stamp, authority = identity
-    return Finding(Identity(file, fingerprint, certificate and CertificateFacts(*certificate), stamp, authority), why, other_key)
+    return Finding(Identity(file, fingerprint, certificate and CertificateFacts(*certificate), stamp, authority), why, other_key,
+                   by_line)

@@ -13,6 +13,7 @@ from .pairs import Neighbour, Stretch
 from .reach import Reached
 from .report import Group
 from .reviewed import Reviewed
+from .claims import Claim
 from .strangers import NO_CLAIMS
 from .stretch_visitor import StretchVisitor
 from .finder import most_shown
@@ -114,7 +115,12 @@ class JsonVerdict(StretchVisitor):
     def stray(self, kind: str, place: int, cause: str) -> None:
         """Writes a message that is unlisted, refused or spoilt."""
         found = self._reviewed.finder.find(place, most_shown(kind))
-        why: Fields = {"cause": cause} if kind == "spoilt" else {}
+        why: Dict[str, object] = {"cause": cause} if kind == "spoilt" else {}
+        if kind == "unlisted":
+            why["unproved"] = place in self._reviewed.unproved
+        if kind == "refused":
+            claim = self._reviewed.claim_at(place)
+            why["claims"] = None if claim is None else claim_fields(*claim)
         self._put({"line": kind, "place": place, **why, "file": shown_name(found.file), "file_place": found.place,
                    "timestamp": found.timestamp, "octets": found.octets, "text": spelled(found.text),
                    "finding": FINDINGS[kind]})
@@ -146,7 +152,7 @@ class JsonVerdict(StretchVisitor):
         self._put({
             "line": "verdict", "status": facts.status, "review_status": facts.review_status, "verdict": sentence(facts),
             "sessions": dict(sorted(self.states.items())), "listed": totals.listed, "missing": totals.lost,
-            "disputed": totals.disputed, "unannounced": totals.unannounced, **missing, "unlisted": totals.unlisted,
+            "disputed": totals.disputed, "unannounced": totals.unannounced, **missing, "unlisted": totals.unlisted, "unproved": facts.unproved,
             "verified": survey.verified, "unverified": totals.refused, "strangers": facts.of_strangers,
             "strangers_ignored": facts.is_ignoring, "unbound_keys": facts.unbound,
             "other_keys": sum(facts.other_keys.values()), "spoilt": totals.spoilt,
@@ -160,6 +166,12 @@ class JsonVerdict(StretchVisitor):
         counted: Fields = {} if self.counters is None else {"next": it.next_number, "next_gbc": it.next_gbc}
         return {**names_of(it.session), "sg": it.sg, "spri": it.spri, "last": it.last, "gbc": it.gbc, **counted,
                 "out_of_order": it.out_of_order, "first_out_of_order": it.first_out_of_order}
+
+
+def claim_fields(it: Claim, stored: int) -> Dict[str, object]:
+    """What an unverified block of a joined session would announce, and how many unlisted messages have its hashes."""
+    numbers: Fields = {"first": it.first, "last": it.last} if it.gbc is not None else {"first": None, "last": None}
+    return {**names_of(it.session), "sg": it.sg, "spri": it.spri, "gbc": it.gbc, **numbers, "stored": stored}
 
 
 def broken_fields(broken: Broken) -> Fields:

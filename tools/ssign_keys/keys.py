@@ -58,6 +58,10 @@ class PublicKey:
         """The SHA-256 of the key's SubjectPublicKeyInfo in DER (RFC 5280, section 4.1), in hexadecimal digits."""
         return fingerprint_of(self._key)
 
+    def pem(self) -> bytes:
+        """The key, as `read_public_keys` takes it."""
+        return self._key.public_bytes(serialization.Encoding.PEM, serialization.PublicFormat.SubjectPublicKeyInfo)
+
     def is_signature(self, octets: bytes, version: bytes, signature: bytes) -> bool:
         """Whether the value of SIGN is this key's signature of the octets, by the hash that VER names."""
         return self.signature_fault(octets, version, signature) is None
@@ -161,11 +165,6 @@ class PrivateKey:
         text: bytes = self._serialized.private_bytes(serialization.Encoding.PEM, serialization.PrivateFormat.PKCS8,
                                                      serialization.NoEncryption())
         return text
-
-    def public_pem(self) -> bytes:
-        """The public key, as `read_public_keys` takes it."""
-        return self._key.public_key().public_bytes(serialization.Encoding.PEM,
-                                                   serialization.PublicFormat.SubjectPublicKeyInfo)
 
 
 def numbers_of(key: dsa.DSAPublicKey) -> Numbers:

@@ -16,8 +16,8 @@ from .blocks import Session
 from .defaults import USUAL_FIELDS, only
 from .faults import Fault
 from .files import open_lock, open_regular, reason
-from .rotation_state import replace
 from .session_file import MOST_RSID
+from .store import replace
 from .words import shown_name
 from .workplace import notify
 
@@ -44,7 +44,8 @@ class KnownSessions:
     def begin(self, arguments: argparse.Namespace, least: int) -> None:
         """Puts the RSID into the words of a session that begins, if none is given: at least so great. Refuses one that was used."""
         if arguments.rsid is None:
-            arguments.rsid = [str(self._reserve(arguments, least))]
+            session = session_of(arguments, least)
+            arguments.rsid = [str(least if session is None else self.reserve(session))]
             return
         session = session_of(arguments)
         if session is not None:
@@ -58,19 +59,20 @@ class KnownSessions:
             with self._locked():
                 self._write(self._refuse_used(session), session)
 
-    def _reserve(self, arguments: argparse.Namespace, least: int) -> int:
-        """The RSID of a session that begins: at least so great, and greater than each before. From now on it is known."""
-        session = session_of(arguments, least)
-        if session is None:
-            return least
+    def reserve(self, session: Session) -> int:
+        """The RSID of a session that begins: at least that, and greater than each before. From now on it is known."""
         with self._locked():
             known = self._read()
-            rsid = max(least, known.get(session[:3], -1) + 1)
+            rsid = max(int(session.rsid), known.get(session[:3], -1) + 1)
             if rsid > MOST_RSID:
                 raise Fault(f"a session of {spelled(session)} has the greatest RSID that there is ({self.name}): begin with other "
                             "names, by --app")
             self._write(known, session._replace(rsid=b"%d" % rsid))
         return rsid
+
+    def last(self, names: Names) -> int:
+        """The greatest RSID that is known with these names; -1 where there is none."""
+        return self._read().get(names, -1)
 
     @property
     def name(self) -> str:

@@ -24,9 +24,9 @@ from .live_session import BOOT, MACHINE, Starter, identity
 from .live_stamps import Stamps, words_of
 from .live_stamps import add_arguments as add_stamps
 from .programs import add_program_argument, find_program
-from .rotation_state import sync_folder
 from .sign import OPTIONS
 from .sizes import read_size
+from .store import sync_folder
 from .streams import say_waiting
 from .words import shown_name
 

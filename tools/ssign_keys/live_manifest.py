@@ -15,7 +15,7 @@ from .live_state import Saved, prefix_of
 from .manifest_file import Appending
 from .manifest_form import FIRST_SUM, Entry, Extent, read_manifest
 from .payloads import present_stamp
-from .rotation_state import replace
+from .store import replace
 from .words import shown_name
 
 

@@ -13,7 +13,7 @@ from typing import Dict, List, Optional, Sequence
 
 from .faults import Fault
 from .payloads import present_stamp
-from .rotation_state import open_anew
+from .store import open_anew
 from .workplace import notify
 
 # a line of each kind is written once in so many seconds

@@ -7,9 +7,9 @@ from __future__ import annotations
 import bisect
 import heapq
 from array import array
-from typing import Dict, Generic, List, NamedTuple, Optional, Tuple, TypeVar
+from typing import AbstractSet, Dict, Generic, List, NamedTuple, Optional, Tuple, TypeVar
 
-from .agreement import Survey
+from .survey import Survey
 from .blocks import Session
 from .pairs import Neighbour, Stretch
 from .report import Group
@@ -42,6 +42,8 @@ KINDS: Dict[str, Kind] = {
     "missing up to the counters": Kind("message", "missing or unlisted, by the counters", "no verified block announces it or a "
                                        "later number"),
     "unlisted": Kind("stored message", "unlisted", "no verified block announces it, or it is a copy too many"),
+    "unproved": Kind("stored message", "unproved", "a block that isn't validly signed has its hash: the signer's own, damaged, or a "
+                     "stranger's"),
     "unannounced": Kind("number", "unannounced", "the block for it is missing or unverified; an unlisted message between the same "
                         "neighbours may be its own"),
     "missing blocks": Kind("signature block", "missing or unverified", "messages that it announced may be missing without another "
@@ -61,7 +63,7 @@ KINDS: Dict[str, Kind] = {
 }
 # the kinds of numbers that aren't listed, and of stored messages, by the words of a report
 STRETCHES = {"lost": "missing", "hole": "unannounced", "disputed": "disputed"}
-STRAYS = {"unlisted": "unlisted", "refused": "unverified", "spoilt": "spoilt"}
+STRAYS = {"unlisted": "unlisted", "refused": "unverified", "spoilt": "spoilt", "unproved": "unproved"}
 
 
 class Run(NamedTuple):
@@ -124,9 +126,10 @@ class Longest(Generic[It]):
 class Weighed(StretchVisitor):
     """Keeps the longest runs of each kind, as a report is read."""
 
-    def __init__(self, survey: Survey, most: int) -> None:
-        """Keeps so many of each kind."""
+    def __init__(self, survey: Survey, most: int, unproved: AbstractSet[int]) -> None:
+        """Keeps so many of each kind. Unlisted messages at these places are unproved."""
         super().__init__(survey)
+        self._unproved = unproved
         self.runs: Dict[str, Longest[Run]] = {it: Longest(most) for it in KINDS}
         self.others: Dict[str, Longest[Found]] = {it: Longest(most) for it in KINDS}
         self.has_one_group = len(survey.reach) == 1
@@ -211,8 +214,10 @@ class Weighed(StretchVisitor):
         if kind == "unlisted":
             self._index += 1
             self._depth += self._claims[self._index - 1]
-            if self._depth or self._is_taken[self._index - 1]:
+            is_unproved = place in self._unproved
+            if self._is_taken[self._index - 1] or self._depth and not is_unproved:
                 return
+            kind = "unproved" if is_unproved else kind
         first = place
         if self._strays[:2] == (kind, cause) and self._strays[3] == place - 1:
             first = self._strays[2]

@@ -35,7 +35,7 @@ def run(arguments: argparse.Namespace) -> int:
             raise Fault(f"there is a file {path}, which is not overwritten")
     scheme = SCHEMES[arguments.ver.encode("ascii")]
     key = PrivateKey.generate(scheme.p_bits, scheme.q_bits)
-    keep(folder, {PRIVATE: key.pem(), PUBLIC: key.public_pem(), PAYLOAD: state_key(key.public, present_stamp()) + b"\n"})
+    keep(folder, {PRIVATE: key.pem(), PUBLIC: key.public.pem(), PAYLOAD: state_key(key.public, present_stamp()) + b"\n"})
     return 0
 
 

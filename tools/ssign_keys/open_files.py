@@ -1,10 +1,11 @@
 """Which processes may still write to a file: a daemon that was told of a rotation writes its last lines after it."""
 from __future__ import annotations
 
+import contextlib
 import os
 import pwd
 import time
-from typing import Dict, Iterator, List, NamedTuple
+from typing import Dict, Iterator, List, NamedTuple, Tuple
 
 from .faults import Fault
 from .files import reason
@@ -14,6 +15,8 @@ PROCESSES = "/proc"
 PAUSE = 0.2
 # how long is waited where nobody can see who has the file open
 BLIND = 5.0
+# so many seconds what was seen holds
+STALE = 2.0
 # the last two bits of the flags of open(2): 0 is for reading alone
 ACCESS = 3
 # the flag of a thread of the kernel (PF_KTHREAD), which has no files, and where the flags stand after the name in `stat`
@@ -52,6 +55,34 @@ def writers_of(number: int) -> Seen:
             # it has ended meanwhile
             continue
     return Seen(found, unseen_words(unseen, "1" in numbers))
+
+
+class Writers:
+    """The processes that have files open for writing, as far as this process may see, looked at anew after some seconds."""
+
+    def __init__(self) -> None:
+        """Nothing is looked at yet."""
+        self._found: Dict[Tuple[int, int], str] = {}
+        self._until = 0.0
+
+    def of(self, file: os.stat_result) -> str:
+        """A process that has a file open, as `NUMBER (NAME)`; empty where there is none."""
+        if time.monotonic() >= self._until:
+            began = time.monotonic()
+            self._found = self._look()
+            # on a machine of many processes most of a run isn't spent so
+            self._until = time.monotonic() + STALE + 10 * (time.monotonic() - began)
+        return self._found.get((file.st_dev, file.st_ino), "")
+
+    def _look(self) -> Dict[Tuple[int, int], str]:
+        found: Dict[Tuple[int, int], str] = {}
+        own = str(os.getpid())
+        for it in os.listdir(PROCESSES) if os.path.isdir(PROCESSES) else []:
+            # a process of another user, or one that has ended meanwhile
+            with contextlib.suppress(OSError):
+                if it.isdigit() and it != own:
+                    found.update({(seen.st_dev, seen.st_ino): f"{it} ({name_of(it)})" for seen in open_for_writing(it)})
+        return found
 
 
 def unseen_words(unseen: Dict[str, int], is_listed: bool) -> str:

@@ -42,7 +42,7 @@ class Page(Weighed):
 
     def __init__(self, reviewed: Reviewed, other_findings: Sequence[Tuple[str, str]]) -> None:
         """Findings that a report doesn't have, as those of a manifest: each with where it is, and what it is."""
-        super().__init__(reviewed.survey, MOST_ROWS)
+        super().__init__(reviewed.survey, MOST_ROWS, reviewed.unproved)
         self._reviewed = reviewed
         self._times = reviewed.detailed().times
         self._text_left = MOST_TEXT
@@ -136,7 +136,7 @@ class Page(Weighed):
     def stray(self, kind: str, place: int, cause: str) -> None:
         """Draws a message that is unlisted, refused or spoilt."""
         super().stray(kind, place, cause)
-        self._places.take(place, place, STRAYS[kind])
+        self._places.take(place, place, "unproved" if place in self._unproved else STRAYS[kind])
 
     def damaged(self, stretch: Damaged) -> None:
         """Draws damaged octets at the message after them, or at the last one, and adds the rows of the longest at once."""
@@ -194,7 +194,7 @@ class Page(Weighed):
             if not count:
                 continue
             # these are counted with the numbers that may be theirs
-            others = self.totals.unlisted - self.runs["unlisted"].numbers
+            others = self.totals.unlisted - self.runs["unlisted"].numbers - self.runs["unproved"].numbers
             other = "other " if kind == "unlisted" and others else ""
             ways: List[Child] = []
             for at, it in enumerate(runs.longest()[:NAMED]):
@@ -274,7 +274,7 @@ class Page(Weighed):
 
     def _text(self, place: int, kind: str) -> Markup:
         """The front of a message, or less of it where all texts together are too long."""
-        most = most_shown("unlisted" if kind not in STRAYS.values() else kind)
+        most = most_shown(kind if kind in ("unverified", "spoilt") else "unlisted")
         found = self._reviewed.finder.find(place, octets_for(most))
         text, is_cut = found.shown(most)
         if len(text) > max(self._text_left, SHORT_TEXT):

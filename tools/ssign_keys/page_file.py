@@ -101,7 +101,7 @@ class PageFile:
                 name_new(self._part, self._wanted)
             self._remove_part()
             # with the rest of its module it is loaded where a page is written
-            from .rotation_state import sync_folder
+            from .store import sync_folder
             sync_folder(os.path.dirname(self._wanted) or ".")
         except FileExistsError as fault:
             raise Fault(f"the file {shown_name(self._wanted)} is there already, and isn't overwritten") from fault

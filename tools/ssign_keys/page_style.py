@@ -11,19 +11,19 @@ from .markup import Markup, drawn, element
 PATTERNS: Dict[str, str] = {
     "missing": "M-1 1L1 -1M0 6L6 0M5 7L7 5", "disputed": "M0 0L6 6M6 0L0 6", "unannounced": "M0 1.5H6M0 4.5H6",
     "missing-up-to-the-counters": "M3 0V6", "changed-or-replaced": "M0 3L3 0L6 3", "unlisted": "M-1 5L1 7M0 0L6 6M5 -1L7 1",
-    "unverified": "M0 3H6M3 0V6", "spoilt": "M1 1H3V3H1Z", "damaged": "M0 3L3 0L6 3L3 6Z",
+    "unproved": "M0 0H3V3H0Z", "unverified": "M0 3H6M3 0V6", "spoilt": "M1 1H3V3H1Z", "damaged": "M0 3L3 0L6 3L3 6Z",
 }
 LIGHT = {
     "back": "#ffffff", "fore": "#1a1a1a", "dim": "#595959", "line": "#b8b8b8", "box": "#f3f3f0", "listed": "#2f7d4f",
     "missing": "#b3261e", "disputed": "#7a1fa2", "unannounced": "#9a6200", "missing-up-to-the-counters": "#1f5fb3",
-    "changed-or-replaced": "#4a55c8", "unlisted": "#c2410c",
+    "changed-or-replaced": "#4a55c8", "unlisted": "#c2410c", "unproved": "#3f6212",
     "unverified": "#8c2d55", "spoilt": "#5d4037", "damaged": "#00696b", "verified": "#7d8b98", "good": "#e3f2e6", "good-fore": "#14532d",
     "bad": "#fde7e4", "bad-fore": "#7a1510", "odd": "#fff4cc", "odd-fore": "#5c4400",
 }
 DARK = {
     "back": "#15171a", "fore": "#e8e6e3", "dim": "#a9a9a9", "line": "#50555b", "box": "#1f2226", "listed": "#5cb87f",
     "missing": "#ff7b70", "disputed": "#d08bf0", "unannounced": "#f2b84b", "missing-up-to-the-counters": "#79aef2",
-    "changed-or-replaced": "#a5b0ff", "unlisted": "#ff9a63",
+    "changed-or-replaced": "#a5b0ff", "unlisted": "#ff9a63", "unproved": "#bef264",
     "unverified": "#ef8fb8", "spoilt": "#c7a79b", "damaged": "#4fc4c4", "verified": "#8794a1", "good": "#163522", "good-fore": "#c9f2d6",
     "bad": "#43191a", "bad-fore": "#ffd9d4", "odd": "#3a2f0b", "odd-fore": "#ffe9a8",
 }

@@ -10,6 +10,7 @@ import base64
 from typing import Callable, Dict, FrozenSet, Iterable, Iterator, List, NamedTuple, Optional, Set, Tuple
 
 from .answer import answers
+from .asked import YES
 from .blocks import Session
 from .encoding import decode
 from .fragments import MARK, Joiner, Piece, read_fragment
@@ -130,7 +131,7 @@ class Search:
                 self._cut.add(session)
         if self._cut:
             self._sentences.append(f"{grouped(len(self._cut), 'session has', 'sessions have')} more fragments than are looked at, so a "
-                                   "certificate that --ca would trust may not be found: --cert names it")
+                                   f"{trust.unfound_words}")
 
     # ---- payloads
 
@@ -178,4 +179,4 @@ class Search:
             octets: Optional[bytes] = None
             for key in keys.get(found.session, []):
                 octets = octets or base64.b64encode(found.octets)
-                yield b"yes %s %s %s\n" % (stated[key.numbers], octets, found.signature)
+                yield b"%s %s %s %s\n" % (YES, stated[key.numbers], octets, found.signature)

@@ -1,6 +1,7 @@
 """Which programs made a verdict: their versions, and the SHA-256 of what they are."""
 from __future__ import annotations
 
+import glob
 import hashlib
 import os
 import shutil
@@ -56,10 +57,10 @@ def found_at(program: str) -> Tuple[str, Optional[str]]:
 
 
 def tool_facts(name: str) -> Program:
-    """The tool itself: the SHA-256 of what `sha256sum *.py` prints in the folder of its code (with LC_ALL=C)."""
+    """The tool itself: the SHA-256 of what `sha256sum *.py */*.py` prints in the folder of its code (with LC_ALL=C)."""
     folder = os.path.dirname(os.path.realpath(__file__))
     hasher = hashlib.sha256()
-    for it in sorted(os.listdir(folder)):
-        if it.endswith(".py"):
-            hasher.update(f"{digest_of(it, os.path.join(folder, it)).sha256}  {it}\n".encode("ascii"))
+    for pattern in ("*.py", "*/*.py"):
+        for path in sorted(glob.glob(os.path.join(glob.escape(folder), pattern))):
+            hasher.update(f"{digest_of(path, path).sha256}  {os.path.relpath(path, folder)}\n".encode("ascii"))
     return Program(folder, f"{name} {VERSION}", hasher.hexdigest())

@@ -3,7 +3,7 @@ from __future__ import annotations
 
 from typing import Iterable, Iterator, List, NamedTuple, Optional, Tuple
 
-from .asked import Asked, Form, Once, PayloadText, Plain
+from .asked import Asked, Form, Objects, Once, PayloadText, Plain
 from .checking import Chunk, ChunkPayload, Question
 from .faults import Fault
 
@@ -29,10 +29,10 @@ class Line(NamedTuple):
 class Reader:
     """Takes lines one by one. What is remembered is the last question, and each payload that is stated once."""
 
-    def __init__(self, most: int) -> None:
-        """No line yet. Payloads of so many octets at most are looked at."""
+    def __init__(self, most: int, are_objects: bool) -> None:
+        """No line yet. Payloads of so many octets at most are looked at. Objects are taken from ssign alone, and by no other way."""
         self._most = most
-        self._form: Optional[Form] = None
+        self._form: Optional[Form] = Objects(most) if are_objects else None
         self._line_number = 0
         self._last: Optional[Asked] = None
         self._lines: List[Line] = []
@@ -46,7 +46,7 @@ class Reader:
         self.longest = 0
 
     def chunks(self, lines: Iterable[bytes]) -> Iterator[Tuple[List[Line], Chunk]]:
-        """The lines in chunks. None ends with a `trust` line where the block after it has the same payload.
+        """The lines in chunks. None ends with a `trust?` line where the block after it has the same payload.
 
         At a line that is no question the chunk before it is given first, so that the first wrong line is the one reported.
         """
@@ -76,7 +76,7 @@ class Reader:
         return len(self._lines) >= CHUNK_LINES or self._octets >= CHUNK_OCTETS
 
     def _ends_with_trust(self) -> bool:
-        """Whether the last line is a `trust` line."""
+        """Whether the last line is a `trust?` line."""
         return not self._lines[-1].asked.is_block
 
     def _has_last(self, payload: PayloadText) -> bool:
@@ -98,7 +98,8 @@ class Reader:
             self._chunk.payloads.append(ChunkPayload(self._payloads, payload.text))
         if is_new or not self._lines or not is_same(asked, self._last):
             self._chunk.questions.append(
-                Question(self._line_number, len(self._chunk.payloads) - 1, asked.is_block, asked.rest))
+                Question(self._line_number, len(self._chunk.payloads) - 1, asked.is_block, asked.rest, asked.session,
+                         asked.about and asked.about.version))
         # what is asked about a payload that isn't looked at is no line of an answers file
         kept = asked if payload.text is not None else asked._replace(rest=b"")
         self._lines.append(Line(kept, len(self._chunk.questions) - 1))

@@ -1,16 +1,17 @@
-"""Reads the report of `ssign review` from its file, line by line, without keeping it (docs/FORMATS.md, "A report").
+"""Reads the report of `ssign review` from its file, line by line, without keeping it (docs/FORMATS.md, "A report", "A tally",
+"A report as JSON"). The values of an object stand in the order of the words of a line, so both forms are read alike.
 
-Nothing is decided about a message here. What is counted are the lines. A report whose lines can't all be true, or
-aren't all known, is no report: it is refused.
+Nothing is decided about a message here: what is counted are the lines. The program is trusted. What it can't have written isn't
+looked for, but a report of lines that aren't known is refused.
 """
 from __future__ import annotations
 
-import re
+import json
 from dataclasses import dataclass
-from typing import BinaryIO, Dict, Iterator, List, Optional, Sequence, Tuple
+from typing import BinaryIO, Callable, Dict, Iterator, List, Optional, Sequence, Tuple, Union
 
 from .blocks import Session
-from .damage import Damage, Damaged
+from .damage import Damaged
 from .faults import Fault
 from .kept import Counters
 from .progress import Progress
@@ -20,15 +21,11 @@ from .words import shown_front
 # line by line
 PIECE = 1 << 16
 LEAST = 1 << 10
-# the words of a report, with how many fields follow each, and where they stand among the others
-FIELDS = {b"session": 5, b"ok": 8, b"gap": 8, b"hole": 8, b"disorder": 9, b"early": 8, b"beyond": 8, b"tail": 8, b"blocks": 6,
-          b"unlisted": 1, b"refused": 1, b"spoilt": 2, b"damaged": 3, b"torn": 1, b"end": 1}
-ORDER = {b"unlisted": 1, b"refused": 2, b"spoilt": 3, b"damaged": 4, b"torn": 5, b"end": 6}
-STATES = ("joined", "disputed", "incomplete", "malformed", "untrusted", "unaccepted", "absent")
-# what follows the front of `ok` lines: numbers and places
-ROWS = re.compile(rb"(?:[1-9][0-9]{0,19} (?:0|[1-9][0-9]{0,19})\n)+")
 # a long line isn't shown whole
 SHOWN = 60
+
+# the values of a line: words as texts, and numbers
+Values = List[Union[str, int]]
 
 
 @dataclass
@@ -38,6 +35,7 @@ class Group:
     session: Session
     sg: int
     spri: int
+    # the first and the last number that a line is about
     first: int = 0
     last: int = 0
     listed: int = 0
@@ -49,32 +47,11 @@ class Group:
     first_out_of_order: int = 0
     first_place: int = 0
     place: int = -1
-    # where the night begins, 1 in a whole log, and where it ends, if counters say that
-    begin: int = 1
-    end: Optional[int] = None
-    # how many announced numbers lie before the night, and after it
-    early: int = 0
-    beyond: int = 0
 
     def reach(self, first: int, last: int) -> None:
-        """Takes numbers into account. A report has a line about each of them from 1 on, or from where the night begins."""
-        is_next = first == self.last + 1 or self.last < first <= self.begin
-        if not is_next or last < first:
-            raise wrong(f"number {first} of the group SG {self.sg}, SPRI {self.spri} follows number {self.last}")
+        """Takes numbers into account, which follow those of the line before."""
         self.first = self.first or first
         self.last = last
-
-    def announce(self, first: int, last: int) -> None:
-        """Counts announced numbers that don't belong to the night."""
-        self.early += max(0, min(last + 1, self.begin) - first)
-        if self.end is not None:
-            self.beyond += max(0, last + 1 - max(first, self.end))
-
-    def list(self, numbers: Sequence[int], places: Sequence[int]) -> None:
-        """Takes listed messages into account, whose numbers follow one another."""
-        self.reach(numbers[0], numbers[-1])
-        self.listed += len(numbers)
-        self.announce(numbers[0], numbers[-1])
 
     def compare(self, numbers: Sequence[int], places: Sequence[int]) -> None:
         """Counts those of these listed messages that stand before the one with the number before."""
@@ -124,18 +101,17 @@ class ReportVisitor:
     """
 
     def __init__(self, is_whole: bool = False, counters: Optional[Counters] = None, begin: Optional[Counters] = None,
-                 is_salvaged: bool = False, is_in_order: bool = False) -> None:
+                 is_in_order: bool = False) -> None:
         """A whole report, of `ssign review --whole`, also has lines about missing signature blocks.
 
         So has one with counters, of `--counters`, which also reports what is missing up to them, and one of a night that
-        begins at counters, of `--from`. One of `--salvage` also has lines about damaged octets.
+        begins at counters, of `--from`.
         One of `--in-order` has lines about messages that are out of order; without them these are counted here.
         """
         self.totals = Totals()
         self.states: Dict[str, int] = {}
         self.counters = counters
         self.begin = begin
-        self.is_salvaged = is_salvaged
         self.is_in_order = is_in_order
         # how many signature blocks are missing; None where the report doesn't speak of them
         is_asked = is_whole or counters is not None or begin is not None
@@ -148,7 +124,7 @@ class ReportVisitor:
         """Tells that the lines of a group follow."""
 
     def listed(self, group: Group, numbers: Sequence[int], places: Sequence[int]) -> None:
-        """Tells of messages that are listed under these numbers, at these places."""
+        """Tells of messages that are listed under these numbers, at these places. A tally has none."""
 
     def gap(self, group: Group, number: int, why: str) -> None:
         """Tells of a number without its message."""
@@ -182,21 +158,38 @@ class ReportVisitor:
 
 
 def wrong(what: str) -> Fault:
-    """What is said of a report that can't be right."""
+    """What is said of a report that can't be read."""
     return Fault(f"the report of ssign review is wrong, so there is no verdict: {what}")
 
 
-def number_of(field: bytes) -> int:
-    """A number of a report."""
-    if not field.isdigit() or len(field) > 20 or len(field) > 1 and field.startswith(b"0"):
-        raise wrong(f"{text_of(field)} stands in place of a number")
-    return int(field)
-
-
 def text_of(octets: bytes) -> str:
-    """The front of a line, or of a field, for a complaint."""
+    """The front of a line for a complaint."""
     text, taken = shown_front(octets, SHOWN)
     return f"'{text}{' ..' if taken < len(octets) else ''}'"
+
+
+def values_of(line: bytes) -> Tuple[str, Values]:
+    """The word of a line of either form, and its values."""
+    try:
+        word, *values = json.loads(line).values() if line.startswith(b"{") else line.decode("ascii").split(" ")
+    except (ValueError, AttributeError) as fault:
+        raise wrong(f"it has a line of another kind, {text_of(line)}") from fault
+    return word, values
+
+
+def session_of(values: Values) -> Session:
+    """The session that the first four values name."""
+    host, app, procid, rsid = (str(it).encode("ascii") for it in values[:4])
+    return Session(host, app, procid, rsid)
+
+
+def front_of(line: bytes) -> bytes:
+    """The front of an `ok` line up to its number."""
+    return line.rsplit(b" ", 2)[0] + b" " if not line.startswith(b"{") else line[:line.rindex(NUMBER) + len(NUMBER)]
+
+
+# what stands before the last two values of an object
+NUMBER, PLACE = b',"number":', b',"place":'
 
 
 class Reading:
@@ -208,19 +201,13 @@ class Reading:
         self._visitor = visitors[0]
         for it in visitors:
             it.totals, it.states = self._visitor.totals, self._visitor.states
+        self._totals = self._visitor.totals
         self._session = Session(b"", b"", b"", b"")
-        self._state = ""
         self._group: Optional[Group] = None
-        # the group before it in the session
-        self._before = (-1, -1)
-        # of the present session, the announced numbers of each group before the night and after it, less those of its lines
-        self._outside: Dict[Tuple[int, int, bool], int] = {}
-        # the front of an `ok` line of the present group, up to its number
+        # the session, SG and SPRI of the present group, and the front of its last `ok` line up to the number
+        self._names: Values = []
         self._front = b""
-        # where the last line stands among the others, and the place that it has
-        self._order = 0
-        self._place = -1
-        self._damage = Damage()
+        self._has_ended = False
 
     def read(self, report: BinaryIO, progress: Progress) -> None:
         """Reads it to its end. Raises Fault where that isn't the end of a report."""
@@ -229,7 +216,7 @@ class Reading:
         for lines in stretches(report):
             progress.show("reading the report", report.tell(), size, "octets")
             self._take_stretch(lines)
-        if self._order != ORDER[b"end"]:
+        if not self._has_ended:
             raise wrong("it has no end")
 
     def _take_stretch(self, lines: bytes) -> None:
@@ -246,226 +233,165 @@ class Reading:
             self._take(line)
 
     def _take_listed(self, lines: bytes) -> bool:
-        """Takes a stretch of lines at once, if all are `ok` lines of the present group. This is most of most reports.
-
-        If a number is wrong, none is taken here: line by line, the first wrong one is the one that is reported.
-        """
-        if self._group is None or not lines.startswith(self._front):
+        """Takes a stretch of lines at once, if all are `ok` lines of the present group. This is most of most reports."""
+        front, group = self._front, self._group
+        if group is None or not front or not lines.startswith(front) or lines.count(b"\n" + front) != lines.count(b"\n") - 1:
             return False
-        if lines.count(b"\n" + self._front) != lines.count(b"\n") - 1:
-            return False
-        text = lines.replace(self._front, b"")
-        if ROWS.fullmatch(text) is None:
-            return False
-        rest = list(map(int, text.split()))
-        numbers = rest[0::2]
+        rest = lines.replace(front, b"")
+        if front.startswith(b"{"):
+            rest = rest.replace(PLACE, b" ").replace(b"}", b"")
+        values = list(map(int, rest.split()))
+        numbers = values[0::2]
+        # where a night begins, numbers may be left out
         if numbers != list(range(numbers[0], numbers[0] + len(numbers))):
             return False
-        self._list(self._group, numbers, rest[1::2])
+        self._list(group, numbers, values[1::2])
         return True
 
+    def _reach(self, group: Group, first: int, last: int) -> None:
+        """Takes numbers into account. A report that lost a line isn't read: a kept one may be damaged. It has a line about each
+        number from 1 on, or from where the night begins, and about those before the night that something in it announces."""
+        begin = self._visitor.begin
+        night = begin.next_number(group.session, group.sg, group.spri) if begin is not None else None
+        if first != group.last + 1 and not group.last < first <= (night or 1):
+            raise wrong(f"number {first} of the group SG {group.sg}, SPRI {group.spri} follows number {group.last}")
+        group.reach(first, last)
+
     def _list(self, group: Group, numbers: List[int], places: List[int]) -> None:
-        group.list(numbers, places)
+        self._reach(group, numbers[0], numbers[-1])
+        group.listed += len(numbers)
         if not self._visitor.is_in_order:
             group.compare(numbers, places)
         for it in self._visitors:
             it.listed(group, numbers, places)
 
     def _take(self, line: bytes) -> None:
-        word, *fields = line.split(b" ")
-        if len(fields) != FIELDS.get(word):
-            raise wrong(f"it has a line of another kind, {text_of(line)}")
-        order = ORDER.get(word, 0)
-        if order < self._order or order == ORDER[b"end"] == self._order:
-            raise wrong(f"the line {text_of(line)} stands too late")
-        if order != self._order:
-            self._check_outside()
-            self._order, self._place = order, -1
-        if word in (b"ok", b"gap", b"hole"):
-            self._take_number(word, fields)
-            return
-        if word == b"disorder" and self._visitor.is_in_order:
-            self._take_disorder(fields)
+        name, fields = values_of(line)
+        if name in OF_GROUPS:
+            OF_GROUPS[name](self, self._group_of(fields[:6]), fields[6:])
+            if name == "ok":
+                self._front = front_of(line)
             return
         self._close_group()
-        if word == b"session":
-            self._take_session(fields)
-        elif word == b"early" and self._visitor.begin is not None:
-            self._take_outside(fields, True)
-        elif word == b"beyond" and self._visitor.begin is not None and self._visitor.counters is not None:
-            self._take_outside(fields, False)
-        elif word == b"tail" and self._visitor.counters is not None:
-            self._take_tail(fields)
-        elif word == b"blocks" and self._visitor.missing is not None:
-            self._take_blocks(fields)
-        elif word in (b"unlisted", b"refused", b"spoilt"):
-            self._take_stray(word.decode("ascii"), fields)
-        elif word == b"damaged" and self._visitor.is_salvaged:
-            self._take_damaged(fields)
-        elif word in (b"torn", b"end"):
-            self._take_end(word, number_of(fields[0]))
+        if name in OTHERS:
+            OTHERS[name](self, fields)
+        elif name in STRAYS:
+            self._take_stray(name, int(fields[0]), str(fields[1]) if fields[1:] else "")
+        elif name in COUNTS:
+            setattr(self._totals, COUNTS[name], int(fields[0]))
+            self._totals.damaged_octets += int(fields[1]) if fields[1:] else 0
         else:
-            raise wrong(f"it has a line that wasn't asked for, {text_of(line)}")
+            raise wrong(f"it has a line of another kind, {text_of(line)}")
 
-    def _take_end(self, word: bytes, number: int) -> None:
+    # ---- lines of groups
+
+    def _group_of(self, names: Values) -> Group:
+        """The group of a line, which ends the one before."""
+        if self._group is None or names != self._names:
+            self._close_group()
+            self._names, self._front = names, b""
+            self._group = Group(session_of(names), int(names[4]), int(names[5]))
+            for it in self._visitors:
+                it.begin_group(self._group)
+        return self._group
+
+    def _close_group(self) -> None:
+        group, self._group = self._group, None
+        if group is not None:
+            self._totals.add(group)
+            for it in self._visitors:
+                it.end_group(group)
+
+    def _take_ok(self, group: Group, fields: Values) -> None:
+        self._list(group, [int(fields[0])], [int(fields[1])])
+
+    def _take_gap(self, group: Group, fields: Values) -> None:
+        number, why = int(fields[0]), str(fields[1])
+        self._reach(group, number, number)
+        group.lost += why == "lost"
+        group.disputed += why == "disputed"
         for it in self._visitors:
-            if word == b"torn":
-                it.totals.torn = number
-                it.torn(number)
-            else:
-                it.totals.messages = number
-                it.end(number)
+            it.gap(group, number, why)
 
-    def _take_session(self, fields: List[bytes]) -> None:
-        session, state = Session(*fields[:4]), fields[4].decode("ascii", "replace")
-        if state not in STATES or state == "absent" and self._visitor.counters is None:
-            raise wrong(f"it has a session whose state is {text_of(fields[4])}")
-        if session == self._session:
-            raise wrong(f"it has the session {text_of(bytes(str(session), 'ascii'))} twice")
-        self._check_outside()
-        self._session, self._state, self._before = session, state, (-1, -1)
+    def _take_hole(self, group: Group, fields: Values) -> None:
+        first, last = map(int, fields)
+        self._reach(group, first, last)
+        group.unannounced += last - first + 1
+        for it in self._visitors:
+            it.hole(group, first, last)
+
+    def _take_disorder(self, group: Group, fields: Values) -> None:
+        group.out_of_order, group.first_out_of_order, group.first_place = map(int, fields)
+
+    def _take_tally(self, group: Group, fields: Values) -> None:
+        group.listed, group.lost, group.disputed, group.unannounced, group.first, group.last = map(int, fields)
+
+    # ---- other lines
+
+    def _take_session(self, fields: Values) -> None:
+        self._session, state = session_of(fields), str(fields[4])
         self._visitor.states[state] = self._visitor.states.get(state, 0) + 1
         for it in self._visitors:
-            it.session(session, state)
+            it.session(self._session, state)
 
-    def _check_session(self, fields: List[bytes]) -> None:
-        """Sees that a line is about the present session, below whose line it stands."""
-        if Session(*fields[:4]) != self._session:
-            raise wrong(f"a line about {text_of(b' '.join(fields[:4]))} stands below the session "
-                        f"{text_of(bytes(str(self._session), 'ascii'))}")
+    def _take_early(self, fields: Values) -> None:
+        self._totals.early += self._take_outside(fields, True)
 
-    def _begin_of(self, sg: int, spri: int) -> int:
-        """The number with which the night begins in a group of the present session."""
-        begin = self._visitor.begin
-        return 1 if begin is None else max(1, begin.next_number(self._session, sg, spri) or 1)
+    def _take_beyond(self, fields: Values) -> None:
+        self._totals.beyond += self._take_outside(fields, False)
 
-    def _end_of(self, sg: int, spri: int) -> Optional[int]:
-        """The number before which the night ends there; None where nothing says it. A group without a counter has none."""
-        counters = self._visitor.counters
-        if self._visitor.begin is None or counters is None:
-            return None
-        return max(1, counters.next_number(self._session, sg, spri) or 1)
-
-    def _take_outside(self, fields: List[bytes], is_early: bool) -> None:
-        self._check_session(fields)
-        sg, spri, first, last = map(number_of, fields[4:])
-        count = last - first + 1
-        if count < 1:
-            raise wrong(f"it has numbers outside of the night from {first} to {last}")
-        key = sg, spri, is_early
-        self._outside[key] = self._outside.get(key, 0) - count
-        self._visitor.totals.early += count if is_early else 0
-        self._visitor.totals.beyond += 0 if is_early else count
+    def _take_outside(self, fields: Values, is_early: bool) -> int:
+        sg, spri, first, last = map(int, fields[4:])
         for it in self._visitors:
             it.outside(self._session, sg, spri, first, last, is_early)
+        return last - first + 1
 
-    def _check_outside(self) -> None:
-        """Sees that each announced number outside of the night has its line, and no other number has one."""
-        if any(self._outside.values()):
-            raise wrong("its lines about numbers outside of the night aren't those of its groups")
-        self._outside = {}
-
-    def _take_tail(self, fields: List[bytes]) -> None:
-        self._check_session(fields)
-        sg, spri, first, last = map(number_of, fields[4:])
-        if not self._begin_of(sg, spri) <= first <= last:
-            raise wrong(f"it has a tail from {first} to {last}")
-        self._visitor.totals.tails += last - first + 1
+    def _take_tail(self, fields: Values) -> None:
+        sg, spri, first, last = map(int, fields[4:])
+        self._totals.tails += last - first + 1
         for it in self._visitors:
             it.tail(self._session, sg, spri, first, last)
 
-    def _take_blocks(self, fields: List[bytes]) -> None:
-        self._check_session(fields)
-        first, last = map(number_of, fields[4:])
-        begin = self._visitor.begin
-        if last < first or begin is not None and first < (begin.next_gbc(self._session) or 0):
-            raise wrong(f"it has missing blocks from {first} to {last}")
+    def _take_blocks(self, fields: Values) -> None:
+        first, last = map(int, fields[4:])
         for it in self._visitors:
             it.missing = (it.missing or 0) + last - first + 1
             it.missing_blocks(self._session, first, last)
 
-    def _take_stray(self, kind: str, fields: List[bytes]) -> None:
-        place, totals = number_of(fields[0]), self._visitor.totals
-        if place <= self._place:
-            raise wrong(f"the place {place} follows the place {self._place}")
-        self._place = place
-        setattr(totals, kind, getattr(totals, kind) + 1)
+    def _take_stray(self, kind: str, place: int, cause: str) -> None:
+        setattr(self._totals, kind, getattr(self._totals, kind) + 1)
         for it in self._visitors:
-            it.stray(kind, place, fields[1].decode("ascii", "replace") if fields[1:] else "")
+            it.stray(kind, place, cause)
 
-    def _take_damaged(self, fields: List[bytes]) -> None:
-        stretch, totals = Damaged(*map(number_of, fields)), self._visitor.totals
-        try:
-            self._damage.add(stretch)
-        except ValueError as fault:
-            raise wrong(f"it has {fault}") from fault
-        totals.damaged += 1
-        totals.damaged_octets += stretch.length
+    def _take_damaged(self, fields: Values) -> None:
+        stretch = Damaged(*map(int, fields))
+        self._totals.damaged += 1
+        self._totals.damaged_octets += stretch.length
         for it in self._visitors:
             it.damaged(stretch)
 
-    def _take_number(self, word: bytes, fields: List[bytes]) -> None:
-        self._check_session(fields)
-        if self._state != "joined":
-            raise wrong(f"a session that is {self._state or 'not there'} has the line {text_of(word)}")
-        sg, spri, number = map(number_of, fields[4:7])
-        group = self._group
-        if group is None or (group.sg, group.spri) != (sg, spri):
-            self._close_group()
-            if (sg, spri) <= self._before:
-                raise wrong(f"the group SG {sg}, SPRI {spri} stands after a later one")
-            self._before = sg, spri
-            group = self._group = Group(self._session, sg, spri, begin=self._begin_of(sg, spri), end=self._end_of(sg, spri))
-            self._front = b" ".join([b"ok", *fields[:6], b""])
-            for it in self._visitors:
-                it.begin_group(group)
-        if word == b"ok":
-            self._list(group, [number], [number_of(fields[7])])
-        elif word == b"gap":
-            self._take_gap(group, number, fields[7].decode("ascii", "replace"))
-        else:
-            last = number_of(fields[7])
-            if number < group.begin:
-                raise wrong(f"it has a hole from {number} to {last}, before the night")
-            group.reach(number, last)
-            group.unannounced += last - number + 1
-            for it in self._visitors:
-                it.hole(group, number, last)
-
-    def _take_gap(self, group: Group, number: int, why: str) -> None:
-        group.reach(number, number)
-        group.announce(number, number)
-        if why == "lost":
-            group.lost += 1
-        elif why == "disputed":
-            group.disputed += 1
-        else:
-            raise wrong(f"number {number} is {text_of(why.encode('ascii', 'replace'))}")
+    def _take_torn(self, fields: Values) -> None:
+        self._totals.torn = int(fields[0])
         for it in self._visitors:
-            it.gap(group, number, why)
+            it.torn(int(fields[0]))
 
-    def _take_disorder(self, fields: List[bytes]) -> None:
-        """Takes what isn't in order in the present group, whose last line this is."""
-        self._check_session(fields)
-        sg, spri, count, number, place = map(number_of, fields[4:])
-        group = self._group
-        if group is None or (group.sg, group.spri) != (sg, spri):
-            raise wrong(f"the order of the group SG {sg}, SPRI {spri} doesn't stand after its other lines")
-        if not 0 < count < group.listed or not group.first < number <= group.last:
-            raise wrong(f"{count} messages of the group SG {sg}, SPRI {spri} are out of order, the first of them number {number}")
-        group.out_of_order, group.first_out_of_order, group.first_place = count, number, place
-        self._close_group()
+    def _take_end(self, fields: Values) -> None:
+        self._totals.messages, self._has_ended = int(fields[0]), True
+        for it in self._visitors:
+            it.end(int(fields[0]))
 
-    def _close_group(self) -> None:
-        group = self._group
-        if group is not None:
-            for is_early, count in ((True, group.early), (False, group.beyond)):
-                if count:
-                    self._outside[group.sg, group.spri, is_early] = count
-            self._visitor.totals.add(group)
-            for it in self._visitors:
-                it.end_group(group)
-        self._group, self._front = None, b""
+
+# the words of lines: of those about numbers of a group, of messages by their places, of the counts of a tally, and the others
+OF_GROUPS: Dict[str, Callable[[Reading, Group, Values], None]] = {
+    "ok": Reading._take_ok, "gap": Reading._take_gap, "hole": Reading._take_hole, "disorder": Reading._take_disorder,
+    "tally": Reading._take_tally,
+}
+STRAYS = ("unlisted", "refused", "spoilt")
+COUNTS = {"unlisted-count": "unlisted", "refused-count": "refused", "spoilt-count": "spoilt", "damaged-count": "damaged"}
+OTHERS: Dict[str, Callable[[Reading, Values], None]] = {
+    "session": Reading._take_session, "early": Reading._take_early, "beyond": Reading._take_beyond, "tail": Reading._take_tail,
+    "blocks": Reading._take_blocks, "damaged": Reading._take_damaged, "torn": Reading._take_torn, "end": Reading._take_end,
+}
 
 
 def stretches(report: BinaryIO) -> Iterator[bytes]:

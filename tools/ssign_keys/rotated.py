@@ -30,9 +30,10 @@ from .manifest_file import Appending
 from .manifest_form import Entry, Manifest, Mark, SetAside, read_manifest, read_mark
 from .open_files import wait_until_closed
 from .programs import add_program_argument, find_program
-from .rotation_state import NO_ENTRY, Current, Signed, Trying, read_state, replace, sync_folder, write_state
+from .rotation_state import NO_ENTRY, Current, Signed, Trying, read_state, write_state
 from .session_file import START, Ongoing
 from .session_state import has_counters, last_rsid, read_session
+from .store import replace, sync_folder
 from .streams import Output
 from .words import counted, shown_name
 from .workplace import Workplace, finish, put, notify

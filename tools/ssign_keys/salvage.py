@@ -4,11 +4,11 @@ from __future__ import annotations
 from typing import Iterable, NamedTuple, Optional
 
 from .damage import Damage, Damaged
-from .report import number_of, text_of, wrong
+from .report import wrong
 
 SALVAGE = "--salvage"
-# the words of an inspection that are about no message, with how many fields follow each
-FIELDS = {b"damaged": 3, b"torn": 1, b"end": 1}
+# the words of an inspection that are about no message
+WORDS = (b"damaged", b"torn", b"end")
 
 
 class Salvaged(NamedTuple):
@@ -32,20 +32,15 @@ def salvaged(lines: Iterable[bytes]) -> Salvaged:
     torn: Optional[int] = None
     for line in lines:
         word, *fields = line.rstrip(b"\n").split(b" ")
-        if word not in FIELDS:
+        if word not in WORDS:
             continue
-        if len(fields) != FIELDS[word]:
-            raise wrong(f"ssign inspect has the line {text_of(line)}")
-        numbers = list(map(number_of, fields))
+        numbers = list(map(int, fields))
         if word == b"torn":
             torn = numbers[0]
         elif word == b"end":
             messages = numbers[0]
         else:
-            try:
-                damage.add(Damaged(*numbers))
-            except ValueError as fault:
-                raise wrong(f"ssign inspect has {fault}") from fault
+            damage.add(Damaged(*numbers))
     if messages is None:
         raise wrong("ssign inspect doesn't say how the log ends")
     return Salvaged(damage, messages, torn)

@@ -16,8 +16,8 @@ from .counters_file import lines_of
 from .faults import Fault
 from .files import open_lock, open_regular, reason
 from .live_state import FILES
-from .rotation_state import replace, sync_folder
 from .session_file import MOST_RSID, START, Ends, Ongoing, read_ends, read_ongoing
+from .store import replace, sync_folder
 from .words import shown_name
 
 SESSION = "session"

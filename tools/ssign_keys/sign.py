@@ -12,6 +12,7 @@ from . import form as forms
 from . import ongoing
 from . import set_aside as set_aside_options
 from . import wrapping as wrapping_options
+from .chain import options as folder_options
 from .defaults import fill, machine_name
 from .faults import Fault
 from .keys import PrivateKey, read_private_key
@@ -53,6 +54,7 @@ OPTIONS = {
 def add_arguments(parser: argparse.ArgumentParser) -> None:
     """Says which words the command takes."""
     parser.add_argument("--key", required=True, metavar="PRIVATE.pem", help="the private key to sign with")
+    folder_options.add_arguments(parser)
     for name, (value, meaning) in OPTIONS.items():
         parser.add_argument(f"--{name}", action="append", metavar=value, help=meaning)
     ongoing.add_arguments(parser)
@@ -62,11 +64,15 @@ def add_arguments(parser: argparse.ArgumentParser) -> None:
     add_limit_arguments(parser)
     expand_options.add_arguments(parser)
     add_program_argument(parser)
-    parser.add_argument("log", metavar="LOG", help="the log of messages without blocks; - is standard input")
+    parser.add_argument("log", nargs="?", metavar="LOG", help="the log of messages without blocks; - is standard input")
 
 
 def run(arguments: argparse.Namespace) -> int:
     """Writes the signed log to standard output. Status 1 if a message was set aside, else that of `ssign sign`."""
+    if arguments.folder is not None:
+        from .chain import sign_folder
+        return sign_folder.run(arguments)
+    folder_options.refuse_lone(arguments)
     program = find_program(arguments)
     progress = Progress()
     log: Optional[Log] = None

@@ -15,8 +15,8 @@ from .files import reason
 from .numbers import number
 from .page_file import name_new
 from .rfc3161 import LONGEST, check_stamp, read_authorities
-from .rotation_state import sync_folder
 from .stamped import ENDING, MOST_SECONDS, SECONDS, add_authorities
+from .store import sync_folder
 from .streams import Output
 from .tsa import ask_command, ask_url, read_url
 from .words import shown_name

@@ -8,28 +8,35 @@ certificate block that the same key signed for an older session looks the same t
 from __future__ import annotations
 
 import argparse
-from array import array
+import bisect
 from collections import Counter
-from typing import Dict, List, NamedTuple, Set, Tuple
+from dataclasses import dataclass
+from typing import Dict, List, Set, Tuple
 
-from .blocks import ANNOUNCING, CARRYING, Session, read_block
-from .logs import Log
-from .progress import Progress
+from .blocks import Session
+from .claims import Claim, Claims
 from .reach import Reach
+from .survey import Survey
+from .words import grouped
 
 # HOSTNAME, APP-NAME and PROCID
 Names = Tuple[bytes, bytes, bytes]
 
 
-class Claims(NamedTuple):
+@dataclass
+class Claimed:
     """The unverified blocks that claim a session."""
 
-    blocks: int
-    late: int
+    blocks: int = 0
+    late: int = 0
     """How many of them may announce a number or have a GBC after all that is verified of a session with these names."""
+    alone: int = 0
+    """How many of the others would announce a number that no verified block announces."""
+    stored: int = 0
+    """How many stored messages that nothing verified announces have hashes of them, counted for each block."""
 
 
-NO_CLAIMS = Claims(0, 0)
+NO_CLAIMS = Claimed()
 
 
 def add_arguments(parser: argparse.ArgumentParser) -> None:
@@ -39,15 +46,30 @@ def add_arguments(parser: argparse.ArgumentParser) -> None:
                         "verified one; also does what --whole does")
 
 
-def words_of(claims: Claims) -> str:
+def words_of(claimed: Claimed) -> str:
     """What is said of so many of them, below their session."""
-    late = claims.late
-    if claims.blocks == 1:
-        said = "1 block claims this session and isn't validly signed; it was left out"
-        return f"{said}, and may be the signer's last one, changed" if late else f"{said} and changes nothing"
-    said = f"{claims.blocks:,} blocks claim this session and aren't validly signed; they were left out"
-    return f"{said}, and {late:,} of them may be the signer's last {'one' if late == 1 else 'ones'}, changed" if late else \
-        f"{said} and change nothing"
+    one, others = claimed.blocks == 1, []
+    if claimed.late:
+        what = "the signer's last one, changed" if claimed.late == 1 else "the signer's last ones, changed"
+        others.append(f"may be {what}" if one else f"{claimed.late:,} of them may be {what}")
+    if claimed.alone:
+        which = "its" if one else f"of {claimed.alone:,} of them the"
+        others.append(f"no verified block announces {which} numbers" if one or claimed.alone == claimed.blocks else
+                      f"no verified block announces the numbers of {claimed.alone:,} of them")
+    if claimed.stored:
+        others.append(f"unproved: {grouped(claimed.stored, 'stored message has', 'stored messages have')} {'its' if one else 'their'} hashes")
+    said = f"{grouped(claimed.blocks, 'block claims', 'blocks claim')} this session and {'is' if one else 'are'}n't validly signed; " \
+        f"{'it was' if one else 'they were'} left out"
+    return f"{said}, and {'; '.join(others)}" if others else f"{said} and {'changes' if one else 'change'} nothing"
+
+
+def claim_words(it: Claim, stored: int) -> str:
+    """What is said of one of them, beside its place: nothing of a certificate block."""
+    if it.gbc is None:
+        return ""
+    numbers = f"number {it.first}" if it.first == it.last else f"numbers {it.first} to {it.last}"
+    said = f"would announce {numbers} of SG {it.sg}, SPRI {it.spri}, GBC {it.gbc}"
+    return f"{said}; unproved, {grouped(stored, 'stored message has', 'stored messages have')} its hashes" if stored else said
 
 
 def late_words(count: int) -> str:
@@ -64,34 +86,31 @@ def ignored_words(count: int) -> str:
     return f"{count:,} unverified blocks were ignored: they claim joined sessions, aren't validly signed, and change nothing"
 
 
-def count_strangers(log: Log, refused: "array[int]", joined: Set[Session], reach: Reach,
-                    progress: Progress) -> Dict[Session, Claims]:
-    """How many of the blocks at these rising places claim each of these sessions, which go so far."""
-    found: Dict[Session, Claims] = {}
-    if not refused or not joined:
+def count_strangers(claims: Claims, survey: Survey) -> Dict[Session, Claimed]:
+    """How many of these blocks claim each session that they claim."""
+    found: Dict[Session, Claimed] = {}
+    if not len(claims):
         return found
-    gbcs, numbers = reached(reach, joined)
-    index = 0
-    for place, stored in log.candidates("looking at unverified blocks", progress):
-        if index == len(refused):
-            break
-        if refused[index] != place:
+    gbcs, numbers = reached(survey.reach, survey.joined)
+    for it, stored in claims:
+        claimed = found.setdefault(it.session, Claimed())
+        claimed.blocks += 1
+        claimed.stored += stored
+        if it.gbc is None:
             continue
-        index += 1
-        octets = log.bare(stored)
-        block = read_block(octets)
-        if block is None or block.session not in joined:
-            continue
-        claims = found.get(block.session, NO_CLAIMS)
-        announcing = ANNOUNCING.match(octets, block.end)
-        if announcing is None:
-            is_late = CARRYING.match(octets, block.end) is None
+        names = names_of(it.session)
+        if it.gbc > gbcs[names] or it.last > numbers.get((names, it.sg, it.spri), 0):
+            claimed.late += 1
         else:
-            sg, spri, gbc, first, count = map(int, announcing.groups())
-            names = names_of(block.session)
-            is_late = gbc > gbcs[names] or first + count - 1 > numbers.get((names, sg, spri), 0)
-        found[block.session] = Claims(claims.blocks + 1, claims.late + is_late)
+            claimed.alone += not is_announced(it, survey)
     return found
+
+
+def is_announced(it: Claim, survey: Survey) -> bool:
+    """Whether verified blocks announce each number of a block, in its own session."""
+    firsts, lasts, last = survey.announced(it.session, it.sg, it.spri)
+    at = bisect.bisect_right(firsts, it.last)
+    return it.last <= last and not (at and lasts[at - 1] >= it.first)
 
 
 def names_of(session: Session) -> Names:

@@ -4,7 +4,7 @@ from __future__ import annotations
 from abc import abstractmethod
 from typing import Dict, Optional, Sequence, Tuple
 
-from .agreement import Survey
+from .survey import Survey
 from .blocks import Session
 from .pairs import Neighbour, Stretch, Stretches
 from .report import Group, ReportVisitor
@@ -15,7 +15,7 @@ class StretchVisitor(ReportVisitor):
 
     def __init__(self, survey: Survey) -> None:
         """The same report was surveyed already."""
-        super().__init__(survey.missing is not None, survey.counters, survey.begin, survey.is_salvaged, survey.is_in_order)
+        super().__init__(survey.missing is not None, survey.counters, survey.begin, survey.is_in_order)
         self._stretches = Stretches(survey.unlisted, survey.damage)
         # the last listed number of each group of the present session
         self._ends: Dict[Tuple[int, int], Optional[Neighbour]] = {}

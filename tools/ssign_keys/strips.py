@@ -17,7 +17,7 @@ LEAST, APART = 5, 150
 MOST_MARKS, WIDE = 4, 500
 # the kinds that are drawn, the lowest first
 DRAWN = ("verified", "listed", "missing", "changed or replaced", "missing up to the counters", "disputed", "unannounced",
-         "unlisted", "unverified", "spoilt", "damaged")
+         "unlisted", "unproved", "unverified", "spoilt", "damaged")
 # those that are as they were signed, and what is said of them besides
 FINE = {"verified": ": a block with a valid signature by the trusted key", "listed": ": stored exactly as it was signed"}
 

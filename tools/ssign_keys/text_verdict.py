@@ -180,7 +180,7 @@ class TextVerdict(Weighed):
 
     def __init__(self, out: BinaryIO, reviewed: Reviewed, only_findings: bool, is_detailed: bool = False) -> None:
         """Shows what was checked, and the times, where it is to be detailed."""
-        super().__init__(reviewed.survey, NAMED)
+        super().__init__(reviewed.survey, NAMED, reviewed.unproved)
         self._out = out
         self._reviewed = reviewed
         self._only_findings = only_findings
@@ -357,7 +357,9 @@ class TextVerdict(Weighed):
             return
         self._shown += 1
         where = place_words(self._reviewed.log, place)
-        self._put(f"  {where}{f', {cause}' if cause else ''}{self._text(place, kind)}")
+        claim = self._reviewed.claim_at(place) if kind == "refused" else None
+        what = strangers.claim_words(*claim) if claim else "unproved" if place in self._reviewed.unproved else cause
+        self._put(f"  {where}{f', {what}' if what else ''}{self._text(place, kind)}")
 
     def _text(self, place: int, kind: str) -> str:
         # what is said of the text stands in front of its colon, where no text of a log can stand

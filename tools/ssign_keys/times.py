@@ -7,7 +7,7 @@ from __future__ import annotations
 from array import array
 from typing import Dict, List, Optional, Sequence, Set, Tuple
 
-from .agreement import Survey
+from .survey import Survey
 from .blocks import Session
 from .logs import Log
 from .moments import FRONT, Bounds, stamp_of

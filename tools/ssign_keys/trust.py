@@ -9,7 +9,7 @@ from . import openpgp
 from .blocks import Block, Session, read_block
 from .faults import Fault
 from .files import read_file
-from .identity import UNKNOWN, CertificateFacts, Finding, Identity
+from .identity import UNKNOWN, ByLine, CertificateFacts, Finding, Identity
 from .keys import NO_KEY, PUBLIC_KEY, Numbers, PublicKey, one_line, read_pem_keys, stated_fingerprint
 from .payload_types import CERTIFICATE
 from .payloads import Payload, bare_numbers, moment_of, read_payload
@@ -47,6 +47,8 @@ class Judged(NamedTuple):
     """Why no key is trusted; empty where one is."""
     finding: Finding = UNKNOWN
     """The same for a report."""
+    by_line: Optional[ByLine] = None
+    """The same as a trust file answers it."""
 
 
 class Given(NamedTuple):
@@ -113,6 +115,10 @@ def add_arguments(parser: argparse.ArgumentParser) -> None:
                         help="the same, but each certificate in the file may end a chain, and what is above it isn't asked")
     parser.add_argument("--cert", action="append", default=[], metavar="CERT.pem",
                         help="trust a payload with this certificate")
+    parser.add_argument("--trust", metavar="FILE", help="the trust file, in place of all options that name keys: a line says which "
+                        "key may sign for which sessions, and until when")
+    parser.add_argument("--seen", metavar="TIME", help="when you had the log already, as 2028-03-01T00:00:00Z or 2028-03-01: the "
+                        "trust file's limits are judged then, and not now")
     add_max_payload(parser)
     parser.add_argument("--at-signing-time", action="store_true", help="judge whether a certificate has expired at the "
                         "payload's time, which its signer states, and not now")
@@ -194,7 +200,7 @@ class Trust:
         self._last_stated: Optional[Stated] = None
         self._last_judged: Optional[Tuple[Stated, Optional[Session], Judged]] = None
         # what was found of certificates, each at a time and for a HOSTNAME
-        self._kept: Dict[Tuple[bytes, datetime, bytes], Judged] = {}
+        self._kept: Dict[Tuple[bytes, datetime, bytes, Tuple[str, ...]], Judged] = {}
 
     @classmethod
     def from_arguments(cls, arguments: argparse.Namespace) -> Trust:
@@ -203,6 +209,9 @@ class Trust:
 
         A caller without --max-payload looks at payloads of the usual length.
         """
+        if getattr(arguments, "trust", None) is not None or getattr(arguments, "seen", None) is not None:
+            from .trust_by_file import read_trust
+            return read_trust(arguments)
         keys: Dict[Numbers, Trusted] = {}
         given: List[Given] = []
         for path in arguments.keys:
@@ -217,7 +226,7 @@ class Trust:
                 raise Fault(f"the session '{it.pattern}' is given two keys: {first.trusted.name} and {it.trusted.name}")
         signers, authorities = read_certificates(arguments)
         if not (keys or session_keys or signers or authorities):
-            raise Fault("nothing says which key is to be trusted: give a public key, --session-key, --ca or --cert")
+            raise Fault("nothing says which key is to be trusted: give a public key, --session-key, --ca, --cert or --trust")
         trust = cls(keys, session_keys, authorities, signers, arguments.at_signing_time,
                     getattr(arguments, "max_payload", LONGEST_PAYLOAD))
         given += [given_key("--session-key", it.trusted, str(it.pattern)) for it in session_keys]
@@ -249,6 +258,11 @@ class Trust:
         """Whether a certificate is trusted that isn't given by itself."""
         return bool(self._authorities)
 
+    @property
+    def unfound_words(self) -> str:
+        """How a sentence ends that not all fragments are looked at in which such a certificate may stand."""
+        return "certificate that --ca would trust may not be found: --cert names it"
+
     def keys_for(self, session: Session) -> List[PublicKey]:
         """The keys that the reviewer gave for a session, each once. Those of certificates that an authority issued aren't among
         them."""
@@ -271,10 +285,10 @@ class Trust:
             return Judged(None, UNREAD, Finding(None, UNREAD))
         last = self._last_judged
         if last is None or last[0] is not stated or last[1] != session:
-            trusted, why, _ = self._judge_stated(stated, session)
+            trusted, why, _, by_line = self._judge_stated(stated, session)
             identity = identity_of(trusted, stated.payload.stamp) if trusted else None
             other = "" if trusted else self._other_key(stated, session)
-            last = self._last_judged = stated, session, Judged(trusted, why, Finding(identity, why, other))
+            last = self._last_judged = stated, session, Judged(trusted, why, Finding(identity, why, other, by_line), by_line)
         return last[2]
 
     def _other_key(self, stated: Stated, session: Optional[Session]) -> str:
@@ -296,8 +310,8 @@ class Trust:
 
     def signer_of(self, payload: bytes, block: Block, octets: bytes, signature: bytes) -> Optional[Finding]:
         """Whose key is trusted for the session of a block, where this is its signature of the octets."""
-        trusted, _, finding = self.judge(payload, block.session)
-        return finding if trusted and trusted.key.is_signature(octets, block.version, signature) else None
+        judged = self.judge(payload, block.session)
+        return judged.finding if judged.trusted and judged.trusted.key.is_signature(octets, block.version, signature) else None
 
     def _judge_stated(self, stated: Stated, session: Optional[Session]) -> Judged:
         """What comes of what a payload states in a session."""
@@ -375,7 +389,7 @@ class Trust:
 
     def _judge_issued(self, issued: Issued, host: bytes) -> Judged:
         """The key of a certificate for a HOSTNAME that it names, where a chain holds. openssl is asked once for each HOSTNAME."""
-        asked = issued.certificate.der, issued.moment, host.lower()
+        asked = issued.certificate.der, issued.moment, host.lower(), tuple(it.authority.path for it in issued.chains)
         if asked not in self._kept:
             if len(self._kept) >= MOST_KEPT:
                 self._kept.clear()

@@ -28,9 +28,10 @@ from .workplace import notify
 HELP = "print this help, or that of a command"
 # the headings of a help, each with the options that stand below it; all others stand below `options`
 GROUPS: Dict[str, Tuple[str, ...]] = {
-    "keys": ("--key", "--seal-command", "--public", "--session-key", "--ca", "--ca-anchor", "--cert", "--at-signing-time",
-             "--allow-sha1", "--ignore-strangers", "--tsa-ca", "--tsa-ca-anchor"),
+    "keys": ("--key", "--seal-command", "--public", "--session-key", "--ca", "--ca-anchor", "--cert", "--trust", "--seen",
+             "--at-signing-time", "--allow-sha1", "--ignore-strangers", "--tsa-ca", "--tsa-ca-anchor"),
     "the log": ("--lines", "--frames", "--journal", "--max-len", "--max-messages", "--max-expanded", "--max-payload"),
+    "a folder of logs": ("--folder", "--match", "--quiet", "--beat", "--no-beat", "--begin"),
     "the session": ("--rsid", "--host", "--app", "--procid", "--msgid", "--pri", "--stamp"),
     "the blocks": ("--payload", "--ver", "--groups", "--count", "--frag", "--copies"),
     "what is reported": ("--whole", "--from", "--counters", "--nights", "--manifest", "--from-manifest", "--manifest-last",

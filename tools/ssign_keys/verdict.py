@@ -13,13 +13,15 @@ from .blocks import Session
 from .broken_blocks import Broken
 from .reach import Coverage
 from .report import Totals
-from .strangers import Claims
+from .strangers import Claimed
 from .summaries import FEW
 from .words import grouped
 
 NOTHING = "Nothing in this log is shown to be authentic. Whatever was signed may have been taken out."
 WRONG = "Nothing in this log is shown to be authentic. Either you gave the wrong key, or the log isn't as it was signed: anybody can " \
     "write one that states another key."
+# what a trust file answers about a key that it names and doesn't trust, and the words for such a key
+ENDED = {"revoked": "a revoked key", "expired": "an expired key", "early": "a key that isn't valid yet"}
 # so many keys of strangers are named
 MOST_KEYS = 3
 # what to do where ssign found nothing wrong, and nothing is listed
@@ -51,7 +53,7 @@ class Facts:
     """Whether the log is judged from counters on."""
     stamps: List[str] = field(default_factory=list)
     """What time stamps show, each in a sentence."""
-    strangers: Dict[Session, Claims] = field(default_factory=dict)
+    strangers: Dict[Session, Claimed] = field(default_factory=dict)
     """The unverified blocks that claim each joined session that has some."""
     are_strangers_ignored: bool = False
     has_others: bool = True
@@ -65,6 +67,10 @@ class Facts:
     """What the reviewer gave in place of them, in front of `the one that its signer states`."""
     is_any_order: bool = False
     """Whether messages that are out of order are no finding."""
+    unproved: int = 0
+    """How many unlisted messages have hashes of unverified blocks that claim joined sessions."""
+    ended: Dict[str, int] = field(default_factory=dict)
+    """How many sessions aren't joined, by what the trust file answers about their keys."""
 
     @property
     def is_of_other_keys(self) -> bool:
@@ -183,17 +189,24 @@ def other_findings(facts: Facts) -> List[str]:
         several(facts.missing_blocks, f"signature block is missing or unverified, {UNSEEN}",
                 f"signature blocks are missing or unverified, {UNSEEN}"),
         "" if facts.is_any_order else several(totals.out_of_order, "listed message is out of order", "listed messages are out of order"),
-        several(totals.unlisted, "stored message is unlisted", "stored messages are unlisted"),
+        several(totals.unlisted, "stored message is unlisted", "stored messages are unlisted") + unproved(facts),
         several(totals.refused, "block is unverified", "blocks are unverified"),
         strangers.late_words(facts.late) if facts.are_strangers_ignored else "",
         several(totals.spoilt, "message is a spoilt block", "messages are spoilt blocks"),
         damage(totals),
-        several(unjoined, "session isn't joined", "sessions aren't joined") + stating(facts, unjoined),
+        unjoined_words(facts, unjoined),
         several(absent, "session that the counters name isn't here", "sessions that the counters name aren't here"),
         sha1.finding(facts.on_sha1),
         several(facts.manifest_findings, "difference from the manifest", "differences from the manifest"),
         "the log breaks off" if totals.torn is not None and totals.messages else "",
     ]
+
+
+def unjoined_words(facts: Facts, unjoined: int) -> str:
+    """How many sessions aren't joined, and what is known of their keys."""
+    said = several(unjoined, "session isn't joined", "sessions aren't joined")
+    known = [it for it in (stating(facts, unjoined), ending(facts)) if it]
+    return f"{said}: {', and '.join(known)}" if known else said
 
 
 def stating(facts: Facts, unjoined: int) -> str:
@@ -204,13 +217,28 @@ def stating(facts: Facts, unjoined: int) -> str:
     states = "states" if count == 1 else "state"
     whose = f"{count:,} of them" if count < unjoined else "it" if count == 1 else "they"
     one = "a key" if len(facts.other_keys) == 1 else "keys"
-    return f": {whose} {states} {one} that you didn't give ({keys_words(facts.other_keys)})"
+    return f"{whose} {states} {one} that you didn't give ({keys_words(facts.other_keys)})"
+
+
+def ending(facts: Facts) -> str:
+    """How many of the sessions that aren't joined are under keys that the trust file names, and doesn't trust."""
+    said = [f"{are(facts.ended[it])} under {what}" for it, what in ENDED.items() if facts.ended.get(it)]
+    return f"by the trust file {', '.join(said)}" if said else ""
 
 
 def keys_words(fingerprints: Dict[str, int]) -> str:
     """The first few keys by their fingerprints, and how many more there are."""
     more = f", and {len(fingerprints) - MOST_KEYS:,} more" if len(fingerprints) > MOST_KEYS else ""
     return f"SHA-256 {', '.join(list(fingerprints)[:MOST_KEYS])}{more}"
+
+
+def unproved(facts: Facts) -> str:
+    """How many of the unlisted messages an unverified block would announce."""
+    if not facts.unproved:
+        return ""
+    hashes = "a block that isn't validly signed has " + ("its hash" if facts.unproved == 1 else "their hashes")
+    some = "" if facts.unproved == facts.totals.unlisted else f"{facts.unproved:,} of them "
+    return f" ({some}unproved: {hashes})"
 
 
 def damage(totals: Totals) -> str:

@@ -3,8 +3,9 @@ from __future__ import annotations
 
 import argparse
 import subprocess
+from array import array
 from itertools import chain
-from typing import TYPE_CHECKING, BinaryIO, Iterator, List, NamedTuple, Optional, Tuple, Union
+from typing import TYPE_CHECKING, BinaryIO, Iterator, List, NamedTuple, Optional, Sequence, Set, Tuple, Union
 
 from . import expand as expand_options
 from . import form as forms
@@ -13,10 +14,8 @@ from . import sha1
 from . import stamped as stamp_options
 from . import strangers
 from . import trust as trust_options
-from .agreement import Survey, messages_of
 from .answer import answers
 from .asking import Asking
-from .blocks import Session
 from .broken_blocks import Broken, Search
 from .counters_file import file_of
 from .defaults import longest
@@ -36,14 +35,16 @@ from .text_verdict import TextVerdict
 from .programs import Refused, Run, add_limit_arguments, add_program_argument, find_program, log_words
 from .progress import Progress
 from .refusals import fault_of, warn_of_damage, warn_of_empty, warn_of_form
-from .report import Reading, ReportVisitor, wrong
+from .report import Reading, ReportVisitor, session_of, values_of, wrong
 from .reviewed import Details, Reviewed
 from .salvage import SALVAGE
+from .survey import Survey, messages_of
 from .finder import Finder
 from .stamped import NONE, Stamps, check_stamps
 from .trust import Trust
 from .verdict import Facts, nothing, wrong_key
 from .block_facts import Notes, noted
+from .claims import Claims, Stored, Unproved, read_claims
 from .words import shown_name
 from .workplace import Workplace, finish, put, notify
 
@@ -57,6 +58,10 @@ if TYPE_CHECKING:
 TOOL = "ssign-keys"
 # each payload is written once
 ONCE = "--once"
+# a report has counts, and no line for each thing
+TALLY = "--tally"
+# so many octets of answers are supposed besides four times those of the log
+ROOM = 1 << 24
 
 
 def add_arguments(parser: argparse.ArgumentParser) -> None:
@@ -221,10 +226,14 @@ class Missing(NamedTuple):
 
 
 class Verifier:
-    """The runs of ssign over a log, with what is kept of them. For most logs one run is all."""
+    """The runs of ssign over a log, with what is kept of them.
+
+    For a log without findings one run is all, which counts. The lines of others come from a second one, by the same answers.
+    """
 
     def __init__(self, program: str, arguments: argparse.Namespace, missing: Missing, log: Log, listed: Optional[Listed],
-                 workplace: Workplace, progress: Progress) -> None:
+                 workplace: Workplace, progress: Progress, reads_lines: bool = False) -> None:
+        """Who reads each line of the report, needs them at once."""
         self._program = program
         self._arguments = arguments
         self.missing = missing
@@ -239,13 +248,15 @@ class Verifier:
         self._status = 0
         # what is to be said of questions that weren't looked at
         self._unlooked: List[str] = []
-        # how many blocks have a valid signature
-        self._valid = 0
         # the payloads that are known beforehand
         self._known = Known([], [])
         self._owners: Optional[Owners] = None
         # the option of ssign that makes the order a finding, or none
         self._order = [] if arguments.any_order else ["--in-order"]
+        # whether nothing is shown of a line that is no finding
+        self._is_brief = listed is None and not (reads_lines or is_detailed(arguments) or arguments.any_order)
+        # what was asked about blocks that aren't validly signed
+        self._unproved = Unproved(workplace)
         self._take_form()
 
     def _take_form(self) -> None:
@@ -254,11 +265,13 @@ class Verifier:
         self._words = [*log_words(self._arguments, are_lines), *([] if are_lines else [SALVAGE])]
 
     def review(self, trust: Trust, stamps: Stamps) -> Reviewed:
-        """Has ssign review the log, and sees that all that is known of it agrees."""
+        """Has ssign review the log."""
         log = self._log
         survey = self._survey_first(trust)
+        if self._is_brief and self._status or self._arguments.raw:
+            survey = self._survey_again()
         try:
-            log.settle(survey.damage if survey.is_salvaged else None, survey.totals.messages, survey.totals.torn)
+            log.settle(survey.damage, survey.totals.messages, survey.totals.torn)
         except ValueError as fault:
             raise wrong(str(fault)) from fault
         if log.damage:
@@ -298,40 +311,46 @@ class Verifier:
         """Has ssign review the log in one run, which asks and is answered. Keeps the answers, and the report."""
         self._report = self._workplace.new_file("report")
         try:
-            words = [*self.missing.words, *self._order, *self._words]
+            words = [*self.missing.words, *self._order, *self._words, *([TALLY] if self._is_brief else [])]
             with Asking(self._program, words, self._workplace, self._progress, self._report) as asking:
                 asking.feed(self._log.octets(self._progress))
                 self._keep(asking.questions(), trust)
                 with open(self.answers_path, "rb") as kept:
                     asking.answer(kept)
-                status = asking.end(lambda: None)
+                self._status = asking.end(lambda: None)
         except Refused:
             # a log that was cut meanwhile may be refused for that alone
             self._log.check_unchanged()
             raise
-        return self._survey(status)
+        return self._survey()
 
-    def _keep(self, lines: Iterator[bytes], trust: Trust) -> None:
-        """Answers questions, and keeps the answers, and what they vouch for as notes."""
-        self._valid = 0
+    def _keep(self, lines: Iterator[bytes], trust: Trust, places: Optional[Sequence[int]] = None) -> None:
+        """Answers questions, and keeps the answers, and what they vouch for as notes. If ssign was handed only some messages, these
+        are their places."""
         with self._workplace.new_file("answers") as file, self._workplace.new_file("notes") as notes, \
-                answers(lines, trust, self._arguments.jobs) as answered:
+                answers(lines, trust, self._arguments.jobs, True) as answered:
+            self._unproved = Unproved(self._workplace, places)
             for count, it in enumerate(noted(answered, notes), 1):
                 put(file, it.line)
-                self._valid += it.is_block
+                self._unproved.take(it)
                 self._progress.show("checking signatures", count, 0, "valid blocks")
             finish(file)
             finish(notes)
         self._unlooked = answered.counts.sentences()
 
-    def _survey(self, status: int) -> Survey:
-        """Goes over the report, and refuses one that can't be right."""
-        # and one of a log that was written on is of another log
+    def _survey_again(self) -> Survey:
+        """Has ssign review the log once more, by the same answers, for a report with each line."""
+        self._report = self._workplace.new_file("report")
+        self._status = self._read_again("review", [*self.missing.words, *self._order], self._report)
+        return self._survey()
+
+    def _survey(self) -> Survey:
+        """Goes over the report. That of a log that was written on is of another log, and is refused."""
         self._log.check_unchanged()
         listed, missing = self._listed, self.missing
         messages = messages_of(self._report)
-        survey = Survey(messages, self._read_notes(), bool(missing.words), missing.counters, missing.begin, SALVAGE in self._words,
-                        bool(self._order))
+        survey = Survey(self._read_notes(), bool(missing.words), missing.counters, missing.begin, bool(self._order),
+                        0 if self._arguments.html is None else messages)
         beside: List[ReportVisitor] = []
         if listed is not None:
             listed.refuse_other(self._log)
@@ -341,8 +360,6 @@ class Verifier:
             self._owners = Owners(survey, messages)
             beside.append(self._owners)
         Reading(survey, *beside).read(self._report, self._progress)
-        survey.check(status, self._valid)
-        self._status = status
         return survey
 
     def _survey_disputed(self, survey: Survey, trust: Trust) -> Survey:
@@ -353,28 +370,63 @@ class Verifier:
         search = KnownSearch(candidates, self._log.are_lines, self._workplace)
         known = self._known = search.run(survey.disputed, trust, self._arguments.jobs)
         if known.words:
-            asking = self._run(["questions", ONCE, *known.words], subprocess.PIPE)
-            asking.feed(filter(known.asks, candidates()))
-            self._keep(asking.lines(lambda: None), trust)
-            self._report = self._workplace.new_file("report")
-            self._status = self._read_again("review", [*self.missing.words, *self._order], self._report)
-        return self._survey(self._status)
+            asking = self._run(["questions", ONCE, "--json", *known.words], subprocess.PIPE)
+            places = array("I")
+            asking.feed(self._asked_about(known, places))
+            self._keep(asking.lines(lambda: None), trust, places)
+            return self._survey_again()
+        return self._survey()
+
+    def _asked_about(self, known: Known, places: "array[int]") -> Iterator[bytes]:
+        """What may be a block that is asked about under known payloads. Its place is kept."""
+        for place, stored in self._log.candidates("looking for blocks", self._progress):
+            if known.asks(stored):
+                places.append(place)
+                yield stored
 
     def _reviewed(self, survey: Survey, trust: Trust, stamps: Stamps) -> Reviewed:
         """What there is to show."""
         log, arguments, missing = self._log, self._arguments, self.missing
-        claims = strangers.count_strangers(log, survey.refused, survey.joined, survey.reach, self._progress)
+        claims, unproved = self._claims(survey)
         facts = Facts(self._status, survey.totals, survey.states, survey.missing or 0, survey.reach.coverage(),
                       self._broken_blocks(survey), 0 if self._listed is None else self._listed.compare(),
-                      survey.on_sha1, arguments.allow_sha1, missing.begin is not None, stamps.sentences, claims,
+                      survey.on_sha1, arguments.allow_sha1, missing.begin is not None, stamps.sentences,
+                      strangers.count_strangers(claims, survey),
                       arguments.ignore_strangers, survey.has_others, [shown_name(it) for it in trust.unbound_files(survey.joined)],
-                      dict(survey.other_keys), trust.given_words, arguments.any_order)
+                      dict(survey.other_keys), trust.given_words, arguments.any_order, len(unproved), dict(survey.ended))
         return Reviewed(log, Finder(log, self._progress), self._read_notes(), survey, facts, bool(missing.words), missing.counters,
-                        missing.begin)
+                        missing.begin, claims=claims, unproved=unproved)
+
+    def _claims(self, survey: Survey) -> Tuple[Claims, Set[int]]:
+        """The unverified blocks that claim joined sessions, and the unlisted messages that have hashes of them: those that are
+        listed by a review in which such a block counts as validly signed."""
+        if not survey.refused or not survey.joined:
+            return Claims(), set()
+        inspecting = self._run(["inspect", "--findings", "--json"], subprocess.PIPE)
+        inspecting.feed(self._log.octets(self._progress))
+        claims = read_claims(inspecting.lines(lambda: None), survey.refused, survey.joined)
+        groups = claims.announcing()
+        if not groups or not survey.unlisted:
+            return claims, set()
+        with self._workplace.new_file("supposed") as file, open(self.answers_path, "rb") as answers_file:
+            for piece in file_pieces(answers_file):
+                put(file, piece)
+            # each answer has the payload, so strangers' blocks under a long one could have no end
+            if not self._unproved.put_lines(claims, file, 4 * self._log.size + ROOM):
+                return claims, set()
+        stored, report = Stored(survey, groups), self._workplace.new_file("supposed-report")
+        self._read_again("review", self.missing.words, report, self._workplace.path("supposed"))
+        Reading(stored).read(report, self._progress)
+        claims.compare(stored)
+        return claims, stored.places
 
     def _read_notes(self) -> Notes:
         """What was kept of the sessions, from the first."""
         return Notes(self._workplace.path("notes"), self._known.unsigned)
+
+    def read(self, *visitors: ReportVisitor) -> None:
+        """Has these go over the report of the last review."""
+        Reading(*visitors).read(self._report, self._progress)
 
     def times(self) -> Times:
         """The times that the messages of the log state."""
@@ -392,9 +444,9 @@ class Verifier:
             self._read_again("counters", [], file)
         return self._workplace.path("counted")
 
-    def _read_again(self, command: str, words: List[str], out: BinaryIO) -> int:
-        """Has ssign read the log once more, under the answers that were kept. Gives the status."""
-        run = self._run([command, f"--answers={self.answers_path}", *self._known.words, *words], out)
+    def _read_again(self, command: str, words: List[str], out: BinaryIO, answers_path: str = "") -> int:
+        """Has ssign read the log once more, under the answers that were kept, or others. Gives the status."""
+        run = self._run([command, f"--answers={answers_path or self.answers_path}", *self._known.words, *words], out)
         run.feed(self._log.octets(self._progress))
         return run.end(lambda: None)
 
@@ -409,9 +461,9 @@ class Verifier:
             return
         self._report.seek(0)
         for line in self._report:
-            if line.startswith(b"session ") and not line.endswith(b" absent\n"):
-                session = Session(*line.split(b" ")[1:5])
-                unused = [it for it in unused if not it.is_for(session)]
+            if line.startswith((b"session ", b'{"line":"session"')):
+                _, values = values_of(line.rstrip(b"\n"))
+                unused = [it for it in unused if values[-1] == "absent" or not it.is_for(session_of(values))]
         for it in unused:
             self._progress.clear()
             notify(f"ssign-keys: the log has no session '{it.pattern}', for which --session-key gives a key")
@@ -424,13 +476,13 @@ class Verifier:
             self._notify(reviewed.facts, arguments, listed)
             pieces = without_listed(file_pieces(self._report)) if arguments.findings else file_pieces(self._report)
             if pages:
-                Reading(*pages).read(self._report, self._progress)
+                self.read(*pages)
         else:
             out = self._workplace.new_file("out")
             if listed is not None:
                 listed.put(out, arguments.json)
             form = make_form(out, reviewed, arguments)
-            Reading(form, *pages).read(self._report, self._progress)
+            self.read(form, *pages)
             front = form.verdict()
             finish(out)
             pieces = chain([front], file_pieces(out))

@@ -9,7 +9,7 @@ import subprocess
 import sys
 import tempfile
 from types import FrameType, TracebackType
-from typing import IO, BinaryIO, Callable, Iterator, List, Mapping, Optional, Sequence, Type, Union
+from typing import IO, BinaryIO, Callable, Iterator, List, Mapping, Optional, Sequence, Tuple, Type, Union
 
 from .faults import Fault
 from .forked import Forked, work_apart
@@ -43,6 +43,8 @@ class Workplace:
         self._children: List[Union[subprocess.Popen[bytes], Forked]] = []
         self._puts_off = False
         self._put_off: Optional[int] = None
+        self.kept_open: Tuple[int, ...] = ()
+        """Descriptors that each child keeps open, as that of a lock: where this process is killed, its child may still write."""
 
     def __enter__(self) -> Workplace:
         owner = os.getpid()
@@ -135,7 +137,7 @@ class Workplace:
         """
         with self._starting():
             child = subprocess.Popen(words, stdin=stdin, stdout=stdout, stderr=stderr, env=env,
-                                     start_new_session=has_group)
+                                     start_new_session=has_group, pass_fds=self.kept_open)
             self._children.append(child)
         return child
 
