@@ -1,7 +1,7 @@
 #!/usr/bin/env bash
 # A session that goes on from run to run. `ssign-keys sign --state`: three nights against a model, stopped at each step, two
-# runs at once, and states that are damaged or another's (sessions.py). `ssign-rotated --one-session`: nights, late lines, stops,
-# a state that was put back. Which sessions were begun with a key is remembered beside it.
+# runs at once, and states that are damaged or another's (sessions.py). Nights with entries in a manifest, and what a run that
+# was stopped left out. Which sessions were begun with a key is remembered beside it.
 # shellcheck source=tests/lib.sh
 . "$(dirname -- "$0")/lib.sh"
 need_program
@@ -99,218 +99,133 @@ printf 'h s - 7\nh s - 9\n' >known
 SSIGN_SESSIONS=known keys sign --key long/private-key.pem --host h --app s --rsid 8 log
 holds 'SSIGN_SESSIONS names the sessions' grep -qF "was begun with the RSID 9 ($PWD/known)" err
 
-# ---- nights of one session
-# fresh: a state, and no logs
-fresh() {
-    rm -rf state logs
-    mkdir state logs
-    echo "${1-0}" >state/rsid
+# ---- nights of one session, each with an entry in a manifest
+manifest=manifest
+# begin: no night is signed, and the manifest is empty
+begin() {
+    rm -rf state nights
+    mkdir nights
+    : >"$manifest"
+    new=(--new-session --rsid 1)
 }
-# night N: a log
+# signed N LINE..: night N is signed, with these lines, and counters-N is where it ends
+signed() {
+    printf '%s\n' "${@:2}" >"night$1"
+    keys sign --key long/private-key.pem --state state --host h --app signer ${new[@]+"${new[@]}"} "night$1"
+    holds "night $1 is signed" test "$status" = 0 -a ! -s err
+    new=()
+    mv out "nights/night$1.frames"
+    cp state/counters-1 "counters-$1"
+}
+# entry N [OPTION..]: it gets its entry
+entry() {
+    keys manifest add "$manifest" "nights/night$1.frames" --counters "counters-$1" "${@:2}"
+    holds "night $1 has its entry" test "$status" = 0 -a ! -s err
+}
+# night N: night N is signed, with two messages
 night() {
-    printf '<13>1 - h a p m - night %s, one\n<14>1 - h a p m - night %s, two\n' "$1" "$1" >"logs/night$1"
+    signed "$1" "<13>1 - h a p m - night $1, one" "<14>1 - h a p m - night $1, two"
 }
-# rotated ARG..: the script of the recipe
-rotated() {
-    KEYS=$scratch/long STATE=$scratch/state WAIT=0 timeout "$patience" "$root/examples/logrotate/ssign-rotated" --host h "$@" >out 2>err </dev/null
-    status=$?
-    drop_unseen
-}
-ln -s -- "$root/tools/ssign-keys" ssign-keys
-export PATH=$scratch:$PATH
-manifest=state/kept/manifest.jsonl
-fresh
+begin
 for it in 1 2 3; do
     night "$it"
-    rotated --one-session "logs/night$it"
-    expect "night $it is signed" 0 '' ''
+    entry "$it"
 done
 holds 'the nights are one session' test "$(sed 's/.*"rsid":\([0-9]*\),"groups":\(.*\),"counters":\(.*\),"set_aside".*/\1 \2 \3/' "$manifest")" = \
     '1 [{"sg":0,"spri":0,"first":1,"last":2}] ["count h signer - 1 1","count h signer - 1 0 0 3"]
 1 [{"sg":0,"spri":0,"first":3,"last":4}] ["count h signer - 1 2","count h signer - 1 0 0 5"]
 1 [{"sg":0,"spri":0,"first":5,"last":6}] ["count h signer - 1 3","count h signer - 1 0 0 7"]'
-holds 'its RSID is used up once' test "$(<state/rsid)" = 1
-holds 'the counters of the last night are those of the state' cmp state/kept/counters-1-3 state/session/counters-1
-keys manifest check "$manifest" logs --logs '*.frames'
+keys manifest check "$manifest" nights --logs '*.frames'
 holds 'the manifest is clean' test "$status" = 0
-keys verify --key long/public-key.pem --manifest "$manifest" logs/night{1,2,3}.frames
+keys verify --key long/public-key.pem --manifest "$manifest" nights/night{1,2,3}.frames
 holds 'all nights together are clean' grep -qF 'All 6 announced messages are present and unchanged' out
 holds 'all nights together: status 0' test "$status" = 0
-keys verify --key long/public-key.pem --raw --manifest "$manifest" logs/night2.frames
+keys verify --key long/public-key.pem --raw --manifest "$manifest" nights/night2.frames
 holds 'one night alone lacks the numbers before' test "$status" = 1 -a "$(grep -v '^ok ' out)" = \
     $'session h signer - 1 joined\nhole h signer - 1 0 0 1 2\nblocks h signer - 1 0 0\nend 6'
 holds 'one night alone is the one of its entry' test ! -s err
 for it in 1 2 3; do
-    keys verify --key long/public-key.pem --raw --manifest "$manifest" --from-manifest "logs/night$it.frames"
+    keys verify --key long/public-key.pem --raw --manifest "$manifest" --from-manifest "nights/night$it.frames"
     holds "night $it alone is clean between its counters" test "$status.$(grep -cv '^ok ' out)" = 0.2
 done
-keys verify --key long/public-key.pem --nights "$manifest" --jobs 2 logs
+keys verify --key long/public-key.pem --nights "$manifest" --jobs 2 nights
 expect 'each night by itself' 0 'Verdict: Nights 1 to 3: all 3 clean; numbers 1 to 6 are there, each once, and nothing else is.' ''
-keys verify --key long/public-key.pem --raw --manifest "$manifest" logs/night{1,3}.frames
+keys verify --key long/public-key.pem --raw --manifest "$manifest" nights/night{1,3}.frames
 holds 'a night between is missing' grep -qx 'hole h signer - 1 0 0 3 4' out
 
-# nights without a message, late lines, and a message that is set aside
+# nights without a message, and numbers that no entry has
 for it in 4 5; do
-    : >"logs/night$it"
-    rotated --one-session "logs/night$it"
+    : >"night$it"
+    keys sign --key long/private-key.pem --state state "night$it"
     holds "night $it has no message" test "$status" = 0
+    mv out "nights/night$it.frames"
+    # such a log announces no number, and its counters are those that it shows
+    counters_of 'h signer - 1 0' >"counters-$it"
+    entry "$it"
 done
-holds 'two nights without a message are alike' cmp logs/night4.frames logs/night5.frames
-echo '<13>1 - h late - - - more' >>logs/night3
+holds 'two nights without a message are alike' cmp nights/night4.frames nights/night5.frames
+keys manifest check "$manifest" nights --logs '*.frames'
+holds 'each of the two has its entry, and the manifest is clean still' test "$status" = 0
 night 6
-echo 'no message' >>logs/night6
-rotated --one-session logs/night6
-holds 'late lines and a message that is set aside: status 1' test "$status" = 1
-holds 'they are signed' test -e logs/night3.late-1.frames -a -e logs/night6.frames
-keys manifest check "$manifest" logs --logs '*.frames'
-holds 'the manifest is clean still' test "$status" = 0
-keys verify --key long/public-key.pem --manifest "$manifest" logs/night{1,2,3,4,5,6}.frames logs/night3.late-1.frames
-holds 'all nights together are clean still' test "$status" = 0
-cp -r state old-state
-
-# other names, and another session
+rm nights/night6.frames
 night 7
-rotated --one-session --app other logs/night7
-holds 'other names: the log waits' grep -qF 'isn'"'"'t signed: --app "other": the APP-NAME of the session of the state' err
-rotated --one-session --new-session
-expect 'another session begins' 0 '' ''
-holds 'with the next RSID' test "$(<state/rsid)" = 2 -a "$(tail -n 1 "$manifest" | sed 's/.*"rsid":\([0-9]*\),.*"first":\([0-9]*\),.*/\1 \2/')" = '2 1'
-holds 'the counters of the one before stay' test "$(ls state/session)" = $'counters-1\ncounters-2\nlock\nsession'
-night 8
-rotated logs/night8
-expect 'without an option, a night as the last one' 0 '' ''
-rotated --new-session
-expect 'another session begins, where nothing waits' 0 '' ''
-rotated --own-sessions --new-session
-expect 'two options that contradict each other' 2 '' 'ssign-keys: --new-session goes with --one-session, and not with --own-sessions'
-night 9
-rotated --own-sessions logs/night9
-expect 'a log as a session of its own' 0 '' ''
-night 9a
-rotated logs/night9a
-expect 'without an option, another one' 0 '' ''
-rotated --new-session
-expect '--new-session without a session' 2 '' 'ssign-keys: --new-session goes with --one-session, or with a state that has a session that goes on'
-night 9b
-rotated --one-session logs/night9b
-expect 'they ended the one session' 0 '' ''
-holds 'so another one begins' test "$(sed 's/.*"rsid":\([0-9]*\),.*/\1/' "$manifest" | tr '\n' ' ')" = '1 1 1 1 1 1 1 2 2 3 4 5 '
+entry 7
+keys manifest check "$manifest" nights --logs '*.frames'
+holds 'a night was signed, and has no entry: it is a finding' test "$status" = 1
+holds 'the manifest lacks its numbers' grep -qxF 'line 6: skipped, no line before it has the numbers 7 to 8 of SG 0, SPRI 0 of the session h signer - 1' out
 
-# a night that couldn't get its name, and then another session
-night 9c
-: >state/kept/counters-5-13
-rotated --one-session logs/night9c
-holds 'a name that is taken: the log waits' grep -qF "logs/night9c isn't signed: $scratch/logs/night9c.frames can't get its name: File exists" err
-rm state/kept/counters-5-13
-night 9d
-rotated --one-session --new-session logs/night9d
-expect 'it gets its name, and another session begins' 0 '' ''
-holds 'each has its session' test "$(tail -n 2 "$manifest" | sed 's/.*"rsid":\([0-9]*\),.*/\1/' | tr '\n' ' ')" = '5 6 '
-
-# numbers that no entry has
-night 10
-keys sign --key long/private-key.pem --state state/session --host h --app signer logs/night10
-holds 'a log is signed besides' test "$status" = 0
-rotated --one-session logs/night10
-holds 'the next night goes on after it' test "$status" = 0
-keys manifest check "$manifest" logs --logs '*.frames'
-holds 'the manifest lacks its numbers' grep -qxF 'line 15: skipped, no line before it has the numbers 3 to 4 of SG 0, SPRI 0 of the session h signer - 6' out
-holds 'that is a finding' test "$status" = 1
-
-# states that are damaged, or were put back
-cp -r state/session kept
-echo >>state/session/session
-night 11
-rotated --one-session logs/night11
-holds 'a session that was changed: nothing is signed' test "$status" = 1 -a ! -e logs/night11.frames
-holds 'a session that was changed: why' grep -qF "logs/night11 isn't signed: the session $scratch/state/session/session isn't as it was written" err
-cp kept/session state/session/session
-rotated --one-session
-expect 'put right again' 0 '' ''
-cp kept/session state/session/session
-night 12
-rotated --one-session logs/night12
-holds 'an old file of the session: the log waits' grep -qF "logs/night12 isn't signed: the session $scratch/state/session/session is older than counters-6 beside it" err
-rm -r state/session
-cp -r kept state/session
-rotated --one-session
-holds 'an old session: the log waits' grep -qF 'the session h signer - 6 goes further in the entry 16 of the manifest than in the state' err
-holds 'an old session: nothing is signed' test "$status" = 1 -a ! -e logs/night12.frames
-rotated --one-session --new-session
-expect 'an old session: another one begins' 0 '' ''
-rm -rf state/session
-night 13
-rotated --one-session logs/night13
-expect 'the session is gone: another one begins' 0 '' ''
-holds 'each with its RSID' test "$(<state/rsid)" = 8
-echo 1 >state/rsid
-rotated --one-session logs/night12
-holds 'an old number of the last session' test "$status" = 2
-
-# a session that began, and of which nothing has its name yet, has its RSID too
-fresh 6
-night 1
-keys sign --key long/private-key.pem --state state/session --new-session --rsid 7 --host h --app signer logs/night1
-rotated --own-sessions logs/night1
-holds 'a session began meanwhile: its RSID is no other log'"'"'s' test "$status.$(<state/rsid)" = 0.8
-fresh 6
-night 1
-keys sign --key long/private-key.pem --state state/session --new-session --rsid 7 --host h --app signer logs/night1
-rotated --one-session --new-session logs/night1
-holds 'it is the one that goes on' test "$status.$(<state/rsid)" = 0.7
-holds 'with its next number' grep -qF '"first":3,"last":4' "$manifest"
-
-# ---- a run that is stopped after it gave numbers: they are left out, which is reported once, for its night alone
+# ---- a run that is stopped after it gave numbers: they are left out, which is a finding of its night alone, until it was seen
 # shellcheck disable=SC2016
 printf '#!/bin/sh\n[ "$1" != sign ] || kill -KILL "$PPID"\nexec %q "$@"\n' "$program" >stopping
 chmod +x stopping
-# stopped N: the run over this night is ended once its counters were saved
+# stopped: a run over a night of two messages is ended once its counters were saved
 stopped() {
-    night "$1"
-    SSIGN=$scratch/stopping keys rotated --keys long --state state --host h --wait 0 --ssign "$scratch/stopping" "logs/night$1"
-    holds "night $1: the run is stopped" test "$status" = 1 -a ! -e "logs/night$1.frames"
+    printf '<13>1 - h a p m - stopped, %s\n' one two >night
+    { SSIGN=$scratch/stopping keys sign --key long/private-key.pem --state state night; } 2>"$scratch/said"
+    holds 'the run is stopped' test "$status" = 137 -a ! -s out
 }
 # checked WHAT STATUS FINDINGS ARG..: the check of the manifest has these findings, one a line
 checked() {
-    keys manifest check "$manifest" logs --logs '*.frames' "${@:4}"
+    keys manifest check "$manifest" nights --logs '*.frames' "${@:4}"
     tell "$1" "$([[ $status == "$2" && $(sed '$d' out) == "$3" ]] || cat out err)"
 }
 mark() {
-    keys manifest check "$manifest" logs --logs '*.frames'
+    keys manifest check "$manifest" nights --logs '*.frames'
     tail -n 1 out | sed 's/.* //'
 }
 why=": by the signer's state, a run had given them when it was stopped"
 left='left-out, no line before it has the numbers'
 none='skipped, no line before it has the numbers'
 of='of SG 0, SPRI 0 of the session h signer - 1'
-fresh 0
+begin
 night 1
-rotated logs/night1
+entry 1
 mark1=$(mark)
-stopped 2
-rotated
-expect 'the next run signs the night' 0 '' ''
+stopped
+cp state/counters-1 given
+night 2
+entry 2 --left-out counters-1 given
 checked 'numbers are left out: a finding' 1 "line 2: $left 3 to 4 $of$why"
 mark2=$(mark)
 night 3
-rotated logs/night3
+entry 3
 checked 'later nights: it is still one for who sees it for the first time' 1 "line 2: $left 3 to 4 $of$why"
 checked 'what was seen is no finding again' 0 '' --seen "$mark2"
 checked 'what was seen, and kept' 0 '' --seen "$mark2" --last "$mark2"
 checked 'only the entry before was seen' 1 "line 2: $left 3 to 4 $of$why" --seen "$mark1"
 checked 'another entry was seen' 1 "entry 2: replaced, it isn't the one whose SHA-256 was kept"$'\n'"line 2: $left 3 to 4 $of$why" --seen "${mark1/#1/2}"
 checked 'an entry was seen that is not there' 1 "entry 9: cut, the manifest has 3 entries, and this one was kept"$'\n'"line 2: $left 3 to 4 $of$why" --seen "${mark2/#2/9}"
-keys manifest check "$manifest" logs --seen x
+keys manifest check "$manifest" nights --seen x
 holds 'no entry is named: status' test "$status" = 2
 # nights WHAT STATUS NIGHTS VERDICT ARG..: each night with findings, and the verdict
 nights() {
-    keys verify --key long/public-key.pem --nights "$manifest" logs/*.frames "${@:5}"
+    keys verify --key long/public-key.pem --nights "$manifest" nights/*.frames "${@:5}"
     tell "$1" "$([[ $status == "$2" && $(sed -n 's/^Night \([0-9]*\) .*/\1/p' out) == "$3" && $(tail -n 1 out) == "Verdict: $4" ]] || cat out err)"
 }
 nights 'its night alone has findings' 1 2 'FINDINGS: nights 1 to 3: 2 of 3 nights are clean; with findings: night 2; 1 difference from the manifest.'
 holds 'its night: why' grep -q '^Night 2 (entry 2, night2.frames): FINDINGS: .*; 2 numbers are unannounced; ' out
 nights 'what was seen: all nights are clean' 0 '' 'Nights 1 to 3: all 3 clean; numbers 1 to 8 are there, each once, and nothing else is, but for 2 numbers that stopped runs left out.' --manifest-seen "$mark2"
-keys verify --key long/public-key.pem --json --nights "$manifest" logs/*.frames --manifest-seen "$mark2"
+keys verify --key long/public-key.pem --json --nights "$manifest" nights/*.frames --manifest-seen "$mark2"
 holds 'what was seen: as JSON' grep -q '^{"line":"verdict","status":0,.*"left_out":2}$' out
 nights 'only the entry before was seen: its night has findings' 1 2 'FINDINGS: nights 1 to 3: 2 of 3 nights are clean; with findings: night 2; 1 difference from the manifest.' --manifest-seen "$mark1"
 # one WHAT STATUS ARG..: one night by itself
@@ -318,57 +233,28 @@ one() {
     keys verify --key long/public-key.pem --manifest "$manifest" --from-manifest "${@:3}"
     tell "$1" "$([[ $status == "$2" ]] || cat out err)"
 }
-one 'the night itself, before it was seen' 1 logs/night2.frames
-one 'the night itself, once it was seen' 0 --manifest-seen "$mark2" logs/night2.frames
+one 'the night itself, before it was seen' 1 nights/night2.frames
+one 'the night itself, once it was seen' 0 --manifest-seen "$mark2" nights/night2.frames
 holds 'the night itself, once it was seen: nothing is missing' grep -q '^Verdict: All 2 announced messages .* Nothing is missing between the counters\.$' out
-one 'the night after it' 0 --manifest-seen "$mark2" logs/night3.frames
-one 'the night before it' 0 --manifest-seen "$mark2" logs/night1.frames
-keys verify --key long/public-key.pem --manifest-seen "$mark2" logs/night1.frames
+one 'the night after it' 0 --manifest-seen "$mark2" nights/night3.frames
+one 'the night before it' 0 --manifest-seen "$mark2" nights/night1.frames
+keys verify --key long/public-key.pem --manifest-seen "$mark2" nights/night1.frames
 holds 'an entry of no manifest was seen' grep -qxF 'ssign-keys: --manifest-seen says something of a manifest: name it with --manifest' err
 
-# the nightly review reports it once, and is clean then
-mkdir -p remembered bin
-ln -sf -- "$root/tools/ssign-keys" bin/ssign-keys
-cp "$manifest" whole
-review() {
-    head -n "$1" whole >"$manifest"
-    PATH=$scratch/bin:$PATH KEY=long/public-key.pem LOG=logs/night$1.frames MANIFEST=$manifest STATE_DIRECTORY=remembered \
-        timeout "$patience" "$root/examples/systemd/ssign-review" >out 2>err
-    status=$?
-}
-mv logs/night2.frames logs/night3.frames .
-review 1
-holds 'the review of the night before: clean' test "$status" = 0
-mv night2.frames logs
-review 2
-holds 'the review of its night: findings' test "$status" = 1
-holds 'the review of its night: what is left out' grep -qF "line 2: $left 3 to 4 $of$why" out
-mv night3.frames logs
-review 3
-holds 'the review of the night after it: clean' test "$status" = 0
-
 # what a log lost that was signed besides is none of it, and stays a finding
+cp "$manifest" whole
 night 4
-keys sign --key long/private-key.pem --state state/session --host h --app signer logs/night4
-stopped 5
-stopped 6
-rotated
+rm nights/night4.frames
+stopped
+stopped
+cp state/counters-1 given
+night 5
+entry 5 --left-out counters-4 given
 checked 'numbers that are lost, and others that two runs left out' 1 "line 2: $left 3 to 4 $of$why
 line 4: $none 9 to 10 $of
-line 4: $left 11 to 16 $of$why"
+line 4: $left 11 to 14 $of$why"
 checked 'what is lost stays a finding' 1 "line 4: $none 9 to 10 $of" --seen "$(mark)"
-nights 'what is lost stays a finding of its night' 1 4 'FINDINGS: nights 1 to 5: 4 of 5 nights are clean; with findings: night 4; 1 difference from the manifest.' --manifest-seen "$(mark)"
-# a run that fails before it gives a number leaves none out
-night 7
-# shellcheck disable=SC2016
-printf '#!/bin/sh\n[ "$1" != plan ] || exit 3\nexec %q "$@"\n' "$program" >failing
-chmod +x failing
-keys rotated --keys long --state state --host h --wait 0 --ssign "$scratch/failing" logs/night7
-holds 'a run fails before it gives a number' test "$status" = 1 -a ! -e logs/night7.frames
-keys sign --key long/private-key.pem --state state/session --host h --app signer logs/night7
-rotated
-checked 'then nothing is left out, and a loss is a loss' 1 "line 4: $none 9 to 10 $of
-line 6: $none 21 to 22 $of" --seen "$(mark)"
+nights 'what is lost stays a finding of its night' 1 4 'FINDINGS: nights 1 to 4: 3 of 4 nights are clean; with findings: night 4; 1 difference from the manifest.' --manifest-seen "$(mark)"
 
 # entries whose left_out isn't what is spelled so
 # spoilt WHAT PYTHON: the last entry with this change is refused, though its line follows the one before
@@ -381,7 +267,7 @@ exec(sys.argv[3])
 lines[1] = json.dumps(it, separators=(",", ":"))
 open(sys.argv[2], "w", encoding="ascii").write("".join(f"{line}\n" for line in lines[:2]))
 END
-    keys manifest check spoilt logs
+    keys manifest check spoilt nights
     tell "an entry: $1" "$([[ $status == 2 && ! -s out ]] && grep -q '^ssign-keys: the line 2 of the manifest spoilt is no entry: ' err || cat out err)"
 }
 spoilt 'nothing is left out' 'it["left_out"]["to"] = it["left_out"]["from"]'
@@ -398,13 +284,13 @@ spoilt 'null' 'it["left_out"] = None'
 # added FROM TO: the second night is added to a manifest of the first one
 added() {
     head -n 1 whole >first
-    keys manifest add first logs/night2.frames --counters state/kept/counters-1-2 --signed "$(sed -n '2s/.*"signed":"\([^"]*\)".*/\1/p' whole)" --left-out "$@"
+    keys manifest add first nights/night2.frames --counters counters-2 --signed "$(sed -n '2s/.*"signed":"\([^"]*\)".*/\1/p' whole)" --left-out "$@"
 }
 # ends RSID GBC NUMBER: counters
 ends() {
     counters_of "h signer - $1 $2" "h signer - $1 0 0 $3"
 }
-added state/kept/counters-1-1 <(ends 1 2 5)
+added counters-1 <(ends 1 2 5)
 holds 'by hand: the entry is the same' test "$status" = 0
 holds 'by hand: octet for octet' cmp first <(head -n 2 whole)
 # not_added WHAT TEXT FROM TO: it is refused, and the manifest stays
@@ -413,20 +299,16 @@ not_added() {
     holds "by hand: $1" grep -qF -- "$2" err
     holds "by hand: $1: nothing is added" test "$status" = 2 -a "$(wc -l <first)" = 1
 }
-not_added 'the log begins later' "the log doesn't begin at the counters " state/kept/counters-1-1 <(ends 1 2 4)
-not_added 'the log begins before' "its left_out goes on where its numbers have begun" state/kept/counters-1-1 <(ends 1 2 6)
-not_added 'counters that go back' "its left_out doesn't go from counters to greater ones" <(ends 1 2 5) state/kept/counters-1-1
+not_added 'the log begins later' "the log doesn't begin at the counters " counters-1 <(ends 1 2 4)
+not_added 'the log begins before' "its left_out goes on where its numbers have begun" counters-1 <(ends 1 2 6)
+not_added 'counters that go back' "its left_out doesn't go from counters to greater ones" <(ends 1 2 5) counters-1
 not_added 'nothing is left out' "its left_out doesn't go from counters to greater ones" <(ends 1 2 5) <(ends 1 2 5)
 not_added 'an entry goes further' "the entry 1 of the manifest first goes further than the first counters of --left-out" <(ends 1 0 1) <(ends 1 2 5)
-not_added 'another session' 'of --left-out is of another session than the log' state/kept/counters-1-1 <(ends 2 2 5)
-not_added 'no counters' "isn't one that \`ssign counters\` writes" state/kept/counters-1-1 <(printf 'x\nend 1\n')
-not_added 'counters that were cut off' "isn't whole: its counters have no end, as where the file was cut off" state/kept/counters-1-1 <(ends 1 2 5 | head -n 2)
-keys manifest check "$manifest" logs --left-out "$manifest" "$manifest"
+not_added 'another session' 'of --left-out is of another session than the log' counters-1 <(ends 2 2 5)
+not_added 'no counters' "isn't one that \`ssign counters\` writes" counters-1 <(printf 'x\nend 1\n')
+not_added 'counters that were cut off' "isn't whole: its counters have no end, as where the file was cut off" counters-1 <(ends 1 2 5 | head -n 2)
+keys manifest check "$manifest" nights --left-out "$manifest" "$manifest"
 expect 'nothing is left out by a check' 2 '' "ssign-keys: --left-out doesn't go with \`manifest check\`"
-added state/kept/counters-1-1 <(ends 1 2 5) --seen "$mark2"
+added counters-1 <(ends 1 2 5) --seen "$mark2"
 expect 'nothing is seen by add' 2 '' "ssign-keys: --seen doesn't go with \`manifest add\`"
-
-# ---- stops of the recipe
-holds 'a run that is stopped at any step is made good by the next' python3 -B "$root/tests/rotation_faults.py" \
-    "$root/tools/ssign-keys" "$program" "$scratch/long" one-session
 finish
