@@ -134,26 +134,25 @@ def try_session(tool: str, ssign: str, keys: str, folder: str) -> None:
             faults.append(f"sign, night {night}: what is planned at {planned} has its session named at {named}, and synced at {synced}")
 
 
-def try_rotated(tool: str, ssign: str, keys: str, folder: str) -> Tuple[str, str]:
-    """A log that is signed, with a message that is set aside. Gives the signed log and its counters."""
-    log = os.path.join(folder, "night.log")
+def try_folder(tool: str, ssign: str, keys: str, folder: str) -> Tuple[str, str]:
+    """A log of a folder that is signed, with a line that is set aside. Gives the signed file and its counters."""
+    logs, sessions, counters = (os.path.join(folder, it) for it in ("logs", "sessions", "counters"))
+    os.mkdir(logs)
+    log = os.path.join(logs, "night.log")
     with open(log, "w", encoding="ascii") as file:
-        file.write("<13>1 - h a p m - one\nno message of RFC 5424\n")
-    state = os.path.join(folder, "state")
-    os.mkdir(state)
-    with open(os.path.join(state, "rsid"), "w", encoding="ascii") as file:
-        file.write("0\n")
-    found = calls(tool, ["rotated", "--ssign", ssign, "--keys", keys, "--state", state, "--host", "h", "--wait", "0", log], "1")
-    kept = os.path.join(state, "kept")
-    names = [f"{log}.frames", f"{log}.set-aside.frames", f"{log}.set-aside.frames.places", os.path.join(kept, "report-1-1"),
-             os.path.join(kept, "counters-1-1"), os.path.join(state, "rsid"), os.path.join(state, "state"),
-             os.path.join(kept, "manifest.jsonl")]
-    look("rotated", found, names)
-    # the number of the session is used up before anybody else may read what has it
-    order = [it[2] for it in found if it[0] in ("rename", "replace", "link")]
-    if names[5] not in order or any(it in order[:order.index(names[5])] for it in names[:3]):
-        faults.append("rotated: the signed log has its name before the RSID is used up")
-    return names[0], names[4]
+        file.write(f"<13>1 - h a p m - one\n{'x' * 70000}\n")
+    os.environ["SSIGN_SESSIONS"] = sessions
+    key = os.path.join(keys, "private-key.pem")
+    found = calls(tool, ["sign", "--ssign", ssign, "--key", key, "--folder", logs, "--quiet", "0"], "0")
+    names = [sessions, f"{log}.set-aside", f"{log}.frames"]
+    look("sign --folder", found, names)
+    # no RSID is used twice, and what a signed file names has its name
+    order = [it[2] for it in found if it[0] in ("rename", "replace", "link") and it[2] in names]
+    if order != names:
+        faults.append(f"sign --folder: the order of the names is {order}")
+    subprocess.run([tool, "verify", "--ssign", ssign, "--key", os.path.join(keys, "public-key.pem"), "--counters-out", counters,
+                    names[2]], stdout=subprocess.DEVNULL, check=True)
+    return names[2], counters
 
 
 def try_manifest(tool: str, ssign: str, log: str, counters: str, folder: str) -> None:
@@ -176,7 +175,7 @@ def main(tool: str, ssign: str, keys: str) -> int:
         folder = os.path.realpath(folder)
         try_seal(tool, ssign, keys, folder)
         try_session(tool, ssign, keys, folder)
-        log, counters = try_rotated(tool, ssign, keys, folder)
+        log, counters = try_folder(tool, ssign, keys, folder)
         try_manifest(tool, ssign, log, counters, folder)
     for fault in faults:
         print(f"    {fault}")
