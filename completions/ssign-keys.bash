@@ -27,7 +27,7 @@ _ssign_keys() {
         return
     fi
     if ((COMP_CWORD == 1)); then
-        _ssign_keys_offer words 'make sign live verify check manifest stamp rotated seal answer explain help --help --version'
+        _ssign_keys_offer words 'make sign live verify check manifest stamp seal answer explain help --help --version'
         return
     fi
     ((COMP_CWORD > 3)) && second=${COMP_WORDS[COMP_CWORD - 2]}
@@ -158,14 +158,6 @@ _ssign_keys() {
     'stamp --out') _ssign_keys_offer text ;;
     'stamp --tsa-ca') _ssign_keys_offer files ;;
     'stamp --tsa-ca-anchor') _ssign_keys_offer files ;;
-    'rotated --keys') _ssign_keys_offer folders ;;
-    'rotated --state') _ssign_keys_offer folders ;;
-    'rotated --kept') _ssign_keys_offer folders ;;
-    'rotated --wait') _ssign_keys_offer text ;;
-    'rotated --last') _ssign_keys_offer text ;;
-    'rotated --host') _ssign_keys_offer text ;;
-    'rotated --app') _ssign_keys_offer text ;;
-    'rotated --ssign') _ssign_keys_offer files ;;
     'seal --state') _ssign_keys_offer files ;;
     'seal --rsid') _ssign_keys_offer text ;;
     'seal --host') _ssign_keys_offer text ;;
@@ -230,13 +222,6 @@ _ssign_keys_words() {
             _ssign_keys_offer files
         fi
         ;;
-    rotated)
-        if [[ $2 == -* ]]; then
-            _ssign_keys_offer words '--help --keys --state --kept --one-session --own-sessions --new-session --wait --pending --remove --forget --last --host --app --ssign'
-        else
-            _ssign_keys_offer files
-        fi
-        ;;
     seal)
         if [[ $2 == -* ]]; then
             _ssign_keys_offer words '--help --state --new-state --each --rsid --host --app --procid'
@@ -258,7 +243,7 @@ _ssign_keys_words() {
             _ssign_keys_offer codes
         fi
         ;;
-    help) _ssign_keys_offer words 'make sign live verify check manifest stamp rotated seal answer explain' ;;
+    help) _ssign_keys_offer words 'make sign live verify check manifest stamp seal answer explain' ;;
     esac
 }
 

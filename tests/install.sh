@@ -77,8 +77,8 @@ wanted=(bin/ssign bin/ssign-keys share/suhvatek/ssign-keys share/suhvatek/ssign_
     share/fish/vendor_completions.d/ssign.fish share/fish/vendor_completions.d/ssign-keys.fish
     share/doc/suhvatek/{README,SECURITY,CHANGELOG}.md share/doc/suhvatek/docs/{guide,FORMATS,PROOFS,messages,scale}.md
     share/doc/suhvatek/docs/{DECISIONS,decisions/formats}.md
-    share/doc/suhvatek/examples/signed/signed.frames share/doc/suhvatek/examples/systemd/ssign-review.service
-    share/doc/suhvatek/examples/logrotate/ssign-rotated share/doc/suhvatek/examples/rsyslog/ssign-live.conf
+    share/doc/suhvatek/examples/signed/signed.frames share/doc/suhvatek/examples/systemd/ssign-sign.service
+    share/doc/suhvatek/examples/rsyslog/ssign-live.conf
     share/doc/suhvatek/examples/syslog-ng/ssign-live.conf share/doc/suhvatek/examples/systemd/ssign-live.service share/doc/suhvatek/examples/lost-block.counters
     share/doc/suhvatek/examples/producers/rsyslog.log)
 for file in "${wanted[@]}"; do

@@ -134,11 +134,6 @@ holds() {
     tell "$what" "$said"
 }
 
-# drop_unseen: takes from `err` what `ssign-keys rotated` says where it can't look at each process, as without root.
-drop_unseen() {
-    sed -i "/ can't be looked at, so it may still be open for writing\\. /d" "$scratch/err"
-}
-
 # validate WHAT PAGE: tidy has nothing against a page of HTML, where it is installed.
 validate() {
     local said=''

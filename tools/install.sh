@@ -101,7 +101,6 @@ list_files() {
     put_all "$documents/examples/producers" "$root"/examples/producers/*
     put_all "$documents/examples/signed" "$root"/examples/signed/*
     put_all "$documents/examples/systemd" "$root"/examples/systemd/*
-    put_all "$documents/examples/logrotate" "$root"/examples/logrotate/*
     put_all "$documents/examples/container" "$root"/examples/container/*
     put_all "$documents/examples/rsyslog" "$root"/examples/rsyslog/*
     put_all "$documents/examples/syslog-ng" "$root"/examples/syslog-ng/*

@@ -5,7 +5,7 @@ import errno
 import os
 import re
 import stat
-from typing import List, Optional, Union
+from typing import List, Optional
 
 from .faults import Fault
 from .words import shown_name
@@ -94,34 +94,10 @@ def open_given(path: str, flags: int = 0) -> int:
     return number
 
 
-def is_shared(folder: Union[str, int]) -> bool:
-    """Whether others than root and this user may put files into a folder, or into that of a descriptor. Raises OSError."""
+def is_shared(folder: str) -> bool:
+    """Whether others than root and this user may put files into a folder. Raises OSError."""
     seen = os.stat(folder)
     return seen.st_uid not in (0, os.geteuid()) or bool(seen.st_mode & OTHERS_WRITE)
-
-
-def open_straight(path: str) -> int:
-    """Opens a folder by its absolute path, and follows no link on the way that others than root and this user may have put
-    there. Raises OSError with a plain reason."""
-    number = os.open(os.sep, os.O_PATH | os.O_DIRECTORY | os.O_CLOEXEC)
-    names = [it for it in path.split(os.sep) if it] or [os.curdir]
-    try:
-        for left, name in enumerate(names, 1 - len(names)):
-            flags = os.O_DIRECTORY | os.O_CLOEXEC | (os.O_PATH if left else os.O_RDONLY)
-            is_others = is_shared(number)
-            try:
-                found = os.open(name, flags | (os.O_NOFOLLOW if is_others else 0), dir_fd=number)
-            except OSError as fault:
-                if is_others and stat.S_ISLNK(os.stat(name, dir_fd=number, follow_symlinks=False).st_mode):
-                    why = f"{shown_name(name)} on the way to it is a link that others may have put there"
-                    raise OSError(fault.errno, why, path) from fault
-                raise
-            os.close(number)
-            number = found
-        return number
-    except BaseException:
-        os.close(number)
-        raise
 
 
 def open_lock(path: str) -> int:

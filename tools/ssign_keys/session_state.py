@@ -205,25 +205,3 @@ def read_plain(path: str) -> Optional[bytes]:
     if len(text) > LONGEST:
         raise OSError(errno.EFBIG, "it is too long")
     return text
-
-
-def read_session(folder: str, is_new: bool) -> Optional[Ongoing]:
-    """The session in a folder of state, or None where it has none. Nobody is kept from it meanwhile.
-
-    Where another session is begun, it is None for an old one too; else that is refused.
-    """
-    return SessionState(folder, is_new).look() if os.path.isdir(folder) else None
-
-
-def has_counters(folder: str, rsid: int) -> bool:
-    """Whether a folder of state keeps counters of a session, so that something of it was signed there."""
-    return os.path.lexists(os.path.join(folder, f"{COUNTERS}{rsid}"))
-
-
-def last_rsid(folder: str) -> int:
-    """The greatest RSID of the sessions that a folder of state knows of; -1 where it isn't there."""
-    if not os.path.isdir(folder):
-        return -1
-    state = SessionState(folder, True)
-    state.ongoing = state.look()
-    return state.last_rsid()
