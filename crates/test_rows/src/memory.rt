@@ -1,6 +1,5 @@
 //! Calls of which `tests/memory.sh` refuses each allocation in turn: a call answers "out of memory" then, and its
 //! answer when it is made again.
-use crate::blocks::signing::{ESCAPED, ESCAPED_SIGNED};
 use crate::blocks::writing::is_each_written;
 use crate::messages::drafts::{FULL, full};
 use crate::messages::examples::FOURTH;
@@ -42,6 +41,15 @@ const CALLS: [Call; 11] = [
     Call::SignedBytes,
     Call::ReadFully,
 ];
+
+/// Values that hold an escaped SIGN, in the block's element too.
+const ESCAPED: &[u8] =
+    b"<110>1 - - - 7 - [x@1 a=\" SIGN=\\\"x\\\"\"][ssign-cert VER=\"0121\" RSID=\"9\" SG=\"0\" SPRI=\"0\" TPBL=\"9\" \
+        INDEX=\"1\" FLEN=\"9\" FRAG=\" SIGN=\\\"x\\\"\" SIGN=\"AAAA\"]";
+
+const ESCAPED_SIGNED: &[u8] =
+    b"<110>1 - - - 7 - [x@1 a=\" SIGN=\\\"x\\\"\"][ssign-cert VER=\"0121\" RSID=\"9\" SG=\"0\" SPRI=\"0\" TPBL=\"9\" \
+        INDEX=\"1\" FLEN=\"9\" FRAG=\" SIGN=\\\"x\\\"\"]";
 
 const PAYLOAD: &[u8] = b"2009-05-03T14:00:39Z K S0VZ";
 

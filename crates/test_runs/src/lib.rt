@@ -20,8 +20,6 @@ mod memory;
 #[cfg(test)]
 mod originating;
 #[cfg(test)]
-mod pinned;
-#[cfg(test)]
 mod rows;
 #[cfg(test)]
 mod run;

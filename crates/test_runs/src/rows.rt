@@ -53,22 +53,6 @@ const QUESTIONS_JSON: &[u8] =
         \"host\":\"h\",\"app\":\"s\",\"procid\":\"-\",\"rsid\":1,\"ver\":\"0111\",\"sg\":0,\"spri\":0,\"total\":27,\
         \"index\":1,\"length\":27}\n";
 
-/// What is asked about two sessions with one payload, which is written once.
-const ONE_PAYLOAD: &[u8] =
-    b"payload 0 MjAwOS0wNS0wM1QxNDowMDozOVogSyBTMFZa\ntrust? 0\nyes? 0 PDExMD4xIC0gaCBzIC0gLSBbc3NpZ24tY2VydCBWRVI9IjAxM\
-        TEiIFJTSUQ9IjEiIFNHPSIwIiBTUFJJPSIwIiBUUEJMPSIyNyIgSU5ERVg9IjEiIEZMRU49IjI3IiBGUkFHPSIyMDA5LTA1LTAzVDE0OjAwOjM\
-        5WiBLIFMwVloiXQ== AAAA\ntrust? 0\nyes? 0 PDExMD4xIC0gaCBzIC0gLSBbc3NpZ24tY2VydCBWRVI9IjAxMTEiIFJTSUQ9IjIiIFNHPSI\
-        wIiBTUFJJPSIwIiBUUEJMPSIyNyIgSU5ERVg9IjEiIEZMRU49IjI3IiBGUkFHPSIyMDA5LTA1LTAzVDE0OjAwOjM5WiBLIFMwVloiXQ== AAAA\
-        \n";
-
-/// What is asked about two sessions with two payloads, each of which is written once.
-const TWO_PAYLOADS: &[u8] =
-    b"payload 0 MjAwOS0wNS0wM1QxNDowMDozOVogSyBTMFZa\ntrust? 0\nyes? 0 PDExMD4xIC0gaCBzIC0gLSBbc3NpZ24tY2VydCBWRVI9IjAxM\
-        TEiIFJTSUQ9IjEiIFNHPSIwIiBTUFJJPSIwIiBUUEJMPSIyNyIgSU5ERVg9IjEiIEZMRU49IjI3IiBGUkFHPSIyMDA5LTA1LTAzVDE0OjAwOjM\
-        5WiBLIFMwVloiXQ== AAAA\npayload 1 MjAwOS0wNS0wM1QxNDowMDo0MFogSyBTMFZa\ntrust? 1\nyes? 1 PDExMD4xIC0gaSBzIC0gLSB\
-        bc3NpZ24tY2VydCBWRVI9IjAxMTEiIFJTSUQ9IjEiIFNHPSIwIiBTUFJJPSIwIiBUUEJMPSIyNyIgSU5ERVg9IjEiIEZMRU49IjI3IiBGUkFHP\
-        SIyMDA5LTA1LTAzVDE0OjAwOjQwWiBLIFMwVloiXQ== AAAA\n";
-
 /// What is extracted of it, 64 octets.
 pub const EXTRACT: &[u8] = b"3 abc56 abcdbcdecdefdefgefghfghighijhijkijkljklmklmnlmnomnopnopq";
 
@@ -76,13 +60,6 @@ pub const EXTRACT: &[u8] = b"3 abc56 abcdbcdecdefdefgefghfghighijhijkijkljklmklm
 pub const CARRIED: &[u8] =
     b"142 <110>1 - h s - - [ssign-cert VER=\"0111\" RSID=\"1\" SG=\"0\" SPRI=\"0\" TPBL=\"27\" INDEX=\"1\" FLEN=\"27\" \
         FRAG=\"2009-05-03T14:00:39Z K S0VZ\" SIGN=\"AAAA\"]";
-
-/// A message that nobody signed, the certificate block, and what is left of a session that isn't joined.
-const CARRIED_BESIDE: &[u8] =
-    b"3 abc142 <110>1 - h s - - [ssign-cert VER=\"0111\" RSID=\"1\" SG=\"0\" SPRI=\"0\" TPBL=\"27\" INDEX=\"1\" \
-        FLEN=\"27\" FRAG=\"2009-05-03T14:00:39Z K S0VZ\" SIGN=\"AAAA\"]56 \
-        abcdbcdecdefdefgefghfghighijhijkijkljklmklmnlmnomnopnopq130 <110>1 - h s - - [ssign VER=\"0111\" RSID=\"2\" \
-        SG=\"0\" SPRI=\"0\" GBC=\"0\" FMN=\"1\" CNT=\"1\" HB=\"qZk+NkcGgWq6PiVxeFDCbJzQ2J0=\" SIGN=\"AAAA\"]";
 
 /// A run over a log, who answers for its signatures, what is written, and the verdict.
 #[derive(Clone, Copy)]
@@ -95,29 +72,14 @@ struct Row {
     verdict: Verdict,
 }
 
-const ROWS: [Row; 40] = [
-    Row {
-        name: "an empty log",
-        job: Job::Review,
-        log: &[],
-        who: Who::All,
-        text: b"end 0\n",
-        verdict: Verdict::Clean,
-    },
+/// Rows for each run. tests/review_examples.py has those of many logs, which tests/reports.py has the built program run over.
+const ROWS: [Row; 9] = [
     Row {
         name: "messages before their blocks",
         job: Job::Review,
         log: &[Text::Short, Text::Long, Text::Certificate, Text::Both],
         who: Who::All,
         text: REPORT,
-        verdict: Verdict::Clean,
-    },
-    Row {
-        name: "messages behind their blocks",
-        job: Job::Review,
-        log: &[Text::Both, Text::Certificate, Text::Short, Text::Long],
-        who: Who::All,
-        text: b"session h s - 1 joined\nok h s - 1 0 0 1 2\nok h s - 1 0 0 2 3\nend 4\n",
         verdict: Verdict::Clean,
     },
     Row {
@@ -129,131 +91,6 @@ const ROWS: [Row; 40] = [
         verdict: Verdict::Findings,
     },
     Row {
-        name: "a block twice",
-        job: Job::Review,
-        log: &[
-            Text::Short,
-            Text::Long,
-            Text::Certificate,
-            Text::Both,
-            Text::Both,
-        ],
-        who: Who::All,
-        text: b"session h s - 1 joined\nok h s - 1 0 0 1 0\nok h s - 1 0 0 2 1\nend 5\n",
-        verdict: Verdict::Clean,
-    },
-    Row {
-        name: "one message for two numbers",
-        job: Job::Review,
-        log: &[Text::Short, Text::Certificate, Text::ShortTwice],
-        who: Who::All,
-        text: b"session h s - 1 joined\nok h s - 1 0 0 1 0\ngap h s - 1 0 0 2 lost\nend 3\n",
-        verdict: Verdict::Findings,
-    },
-    Row {
-        name: "three messages for one number",
-        job: Job::Review,
-        log: &[
-            Text::Short,
-            Text::Short,
-            Text::Short,
-            Text::Certificate,
-            Text::ShortAlone,
-        ],
-        who: Who::All,
-        text: b"session h s - 1 joined\nok h s - 1 0 0 1 0\nunlisted 1\nunlisted 2\nend 5\n",
-        verdict: Verdict::Findings,
-    },
-    Row {
-        name: "two messages for one number",
-        job: Job::Review,
-        log: &[
-            Text::Short,
-            Text::Long,
-            Text::Certificate,
-            Text::ShortAlone,
-            Text::LongAlone,
-        ],
-        who: Who::All,
-        text: b"session h s - 1 joined\ngap h s - 1 0 0 1 disputed\nunlisted 0\nunlisted 1\nend 5\n",
-        verdict: Verdict::Findings,
-    },
-    Row {
-        name: "a payload in two fragments",
-        job: Job::Review,
-        log: &[Text::Short, Text::Back, Text::Front, Text::ShortAlone],
-        who: Who::All,
-        text: b"session h s - 1 joined\nok h s - 1 0 0 1 0\nend 4\n",
-        verdict: Verdict::Clean,
-    },
-    Row {
-        name: "a fragment is missing",
-        job: Job::Review,
-        log: &[Text::Short, Text::Back, Text::ShortAlone],
-        who: Who::All,
-        text: b"session h s - 1 incomplete\nunlisted 0\nrefused 1\nrefused 2\nend 3\n",
-        verdict: Verdict::Findings,
-    },
-    Row {
-        name: "two payloads",
-        job: Job::Review,
-        log: &[
-            Text::Short,
-            Text::Certificate,
-            Text::OtherPayload,
-            Text::ShortAlone,
-        ],
-        who: Who::All,
-        text: b"session h s - 1 disputed\nunlisted 0\nrefused 1\nrefused 2\nrefused 3\nend 4\n",
-        verdict: Verdict::Findings,
-    },
-    Row {
-        name: "the last number",
-        job: Job::Review,
-        log: &[Text::Short, Text::Certificate, Text::ShortAtLastNumber],
-        who: Who::All,
-        text: b"session h s - 1 joined\nhole h s - 1 0 0 1 9999999998\nok h s - 1 0 0 9999999999 0\nend 3\n",
-        verdict: Verdict::Findings,
-    },
-    Row {
-        name: "a number behind the last",
-        job: Job::Review,
-        log: &[Text::Certificate, Text::PastLastNumber],
-        who: Who::All,
-        text: b"session h s - 1 joined\nspoilt 1 S9\nend 2\n",
-        verdict: Verdict::Findings,
-    },
-    Row {
-        name: "other elements and a MSG are signed too",
-        job: Job::Review,
-        log: &[Text::Short, Text::Certificate, Text::ShortBesideOthers],
-        who: Who::Only(Text::Certificate, Text::ShortBesideOthers),
-        text: b"session h s - 1 joined\nok h s - 1 0 0 1 0\nend 3\n",
-        verdict: Verdict::Clean,
-    },
-    Row {
-        name: "two sessions announce one message",
-        job: Job::Review,
-        log: &[
-            Text::Short,
-            Text::Certificate,
-            Text::SecondSession,
-            Text::ShortBySha256,
-            Text::ShortOfSecondSession,
-        ],
-        who: Who::All,
-        text: b"session h s - 1 joined\nok h s - 1 0 0 1 0\nsession h s - 2 joined\ngap h s - 2 0 0 1 lost\nend 5\n",
-        verdict: Verdict::Findings,
-    },
-    Row {
-        name: "no payload",
-        job: Job::Review,
-        log: &[Text::NoPayload],
-        who: Who::All,
-        text: b"session h s - 1 malformed\nrefused 0\nend 1\n",
-        verdict: Verdict::Findings,
-    },
-    Row {
         name: "the payload is not trusted",
         job: Job::Review,
         log: &[Text::Short, Text::Long, Text::Certificate, Text::Both],
@@ -262,115 +99,11 @@ const ROWS: [Row; 40] = [
         verdict: Verdict::Findings,
     },
     Row {
-        name: "no signature is valid",
-        job: Job::Review,
-        log: &[Text::Short, Text::Long, Text::Certificate, Text::Both],
-        who: Who::NoSignature,
-        text: b"session h s - 1 unaccepted\nunlisted 0\nunlisted 1\nrefused 2\nrefused 3\nend 4\n",
-        verdict: Verdict::Findings,
-    },
-    Row {
-        name: "the certificate block alone is valid",
-        job: Job::Review,
-        log: &[Text::Short, Text::Long, Text::Certificate, Text::Both],
-        who: Who::Only(Text::Certificate, Text::Certificate),
-        text: b"session h s - 1 joined\nunlisted 0\nunlisted 1\nrefused 3\nend 4\n",
-        verdict: Verdict::Findings,
-    },
-    Row {
-        name: "a signature block alone",
-        job: Job::Review,
-        log: &[Text::Both],
-        who: Who::All,
-        text: b"session h s - 1 incomplete\nrefused 0\nend 1\n",
-        verdict: Verdict::Findings,
-    },
-    Row {
-        name: "the last octet alone",
-        job: Job::Review,
-        log: &[Text::LastOctet],
-        who: Who::All,
-        text: b"session h s - 1 incomplete\nrefused 0\nend 1\n",
-        verdict: Verdict::Findings,
-    },
-    Row {
-        name: "two lengths",
-        job: Job::Review,
-        log: &[Text::Short, Text::Certificate, Text::LongerPayload],
-        who: Who::All,
-        text: b"session h s - 1 disputed\nunlisted 0\nrefused 1\nrefused 2\nend 3\n",
-        verdict: Verdict::Findings,
-    },
-    Row {
-        name: "the front of the payload is not valid",
-        job: Job::Review,
-        log: &[Text::Short, Text::Front, Text::Back, Text::ShortAlone],
-        who: Who::Only(Text::Back, Text::ShortAlone),
-        text: b"session h s - 1 unaccepted\nunlisted 0\nrefused 1\nrefused 2\nrefused 3\nend 4\n",
-        verdict: Verdict::Findings,
-    },
-    Row {
-        name: "the front is not valid beside the whole",
-        job: Job::Review,
-        log: &[
-            Text::Short,
-            Text::Certificate,
-            Text::Front,
-            Text::ShortAlone,
-        ],
-        who: Who::Only(Text::Certificate, Text::ShortAlone),
-        text: b"session h s - 1 joined\nok h s - 1 0 0 1 0\nrefused 2\nend 4\n",
-        verdict: Verdict::Findings,
-    },
-    Row {
-        name: "two hosts announce one message",
-        job: Job::Review,
-        log: &[
-            Text::Short,
-            Text::Certificate,
-            Text::ShortAlone,
-            Text::HostI,
-            Text::ShortOfHostI,
-        ],
-        who: Who::All,
-        text: b"session h s - 1 joined\nok h s - 1 0 0 1 0\nsession i s - 1 joined\ngap i s - 1 0 0 1 lost\nend 5\n",
-        verdict: Verdict::Findings,
-    },
-    Row {
-        name: "two payloads of two hosts",
-        job: Job::Review,
-        log: &[
-            Text::Short,
-            Text::Certificate,
-            Text::OtherPayloadOfHostI,
-            Text::ShortAlone,
-        ],
-        who: Who::All,
-        text: b"session h s - 1 joined\nok h s - 1 0 0 1 0\nsession i s - 1 joined\nend 4\n",
-        verdict: Verdict::Clean,
-    },
-    Row {
-        name: "hosts before numbers of sessions",
-        job: Job::Review,
-        log: &[Text::HostI, Text::SecondSession, Text::HostH1],
-        who: Who::All,
-        text: b"session h s - 2 joined\nsession h1 s - 1 joined\nsession i s - 1 joined\nend 3\n",
-        verdict: Verdict::Clean,
-    },
-    Row {
         name: "the questions of two blocks",
         job: Job::Questions,
         log: &[Text::Short, Text::Long, Text::Certificate, Text::Both],
         who: Who::All,
         text: QUESTIONS,
-        verdict: Verdict::Clean,
-    },
-    Row {
-        name: "no question of a session without a payload",
-        job: Job::Questions,
-        log: &[Text::Short, Text::Back, Text::ShortAlone],
-        who: Who::All,
-        text: b"",
         verdict: Verdict::Clean,
     },
     Row {
@@ -398,58 +131,12 @@ const ROWS: [Row; 40] = [
         verdict: Verdict::Clean,
     },
     Row {
-        name: "one payload of two sessions, once",
-        job: Job::QuestionsOnce,
-        log: &[Text::SecondSession, Text::Certificate],
-        who: Who::All,
-        text: ONE_PAYLOAD,
-        verdict: Verdict::Clean,
-    },
-    Row {
-        name: "two payloads, each once",
-        job: Job::QuestionsOnce,
-        log: &[Text::OtherPayloadOfHostI, Text::Certificate],
-        who: Who::All,
-        text: TWO_PAYLOADS,
-        verdict: Verdict::Clean,
-    },
-    Row {
-        name: "no payload to be written once",
-        job: Job::QuestionsOnce,
-        log: &[Text::Short, Text::Back, Text::ShortAlone],
-        who: Who::All,
-        text: b"",
-        verdict: Verdict::Clean,
-    },
-    Row {
         name: "an extract in the order of numbers",
         job: Job::Extract,
         log: &[Text::Both, Text::Certificate, Text::Short, Text::Long],
         who: Who::All,
         text: EXTRACT,
         verdict: Verdict::Clean,
-    },
-    Row {
-        name: "an extract of one message that stands three times",
-        job: Job::Extract,
-        log: &[
-            Text::Short,
-            Text::Short,
-            Text::Short,
-            Text::Certificate,
-            Text::ShortAlone,
-        ],
-        who: Who::All,
-        text: b"3 abc",
-        verdict: Verdict::Findings,
-    },
-    Row {
-        name: "an extract where nothing is trusted",
-        job: Job::Extract,
-        log: &[Text::Short, Text::Long, Text::Certificate, Text::Both],
-        who: Who::NoPayload(Text::Certificate, Text::Both),
-        text: b"",
-        verdict: Verdict::Findings,
     },
     Row {
         name: "the first certificate block of three is carried over",
@@ -464,19 +151,6 @@ const ROWS: [Row; 40] = [
         ],
         who: Who::All,
         text: CARRIED,
-        verdict: Verdict::Clean,
-    },
-    Row {
-        name: "a message that nobody signed is carried over, and a session without a certificate block",
-        job: Job::Carry,
-        log: &[
-            Text::Short,
-            Text::Certificate,
-            Text::Long,
-            Text::ShortOfSecondSession,
-        ],
-        who: Who::All,
-        text: CARRIED_BESIDE,
         verdict: Verdict::Clean,
     },
 ];

@@ -19,15 +19,10 @@ pub enum Text {
     Back,
     /// Another payload.
     OtherPayload,
-    /// Another length of the payload, whose last octet is missing.
-    LongerPayload,
     /// A whole text that is no payload.
     NoPayload,
-    /// The last octet alone of the longest payload there is.
-    LastOctet,
     SecondSession,
     HostI,
-    OtherPayloadOfHostI,
     HostH1,
     /// Announces the short message and the long one.
     Both,
@@ -43,7 +38,6 @@ pub enum Text {
     /// Announces the short message by its SHA-256.
     ShortBySha256,
     ShortOfSecondSession,
-    ShortOfHostI,
     /// Announces the short message, between other elements and before a MSG.
     ShortBesideOthers,
 }
@@ -68,17 +62,9 @@ const OTHER_PAYLOAD: &[u8] =
     b"<110>1 - h s - - [ssign-cert VER=\"0111\" RSID=\"1\" SG=\"0\" SPRI=\"0\" TPBL=\"27\" INDEX=\"1\" FLEN=\"27\" \
         FRAG=\"2009-05-03T14:00:40Z K S0VZ\" SIGN=\"AAAA\"]";
 
-const LONGER_PAYLOAD: &[u8] =
-    b"<110>1 - h s - - [ssign-cert VER=\"0111\" RSID=\"1\" SG=\"0\" SPRI=\"0\" TPBL=\"28\" INDEX=\"1\" FLEN=\"27\" \
-        FRAG=\"2009-05-03T14:00:39Z K S0VZ\" SIGN=\"AAAA\"]";
-
 const NO_PAYLOAD: &[u8] =
     b"<110>1 - h s - - [ssign-cert VER=\"0111\" RSID=\"1\" SG=\"0\" SPRI=\"0\" TPBL=\"1\" INDEX=\"1\" FLEN=\"1\" \
         FRAG=\"x\" SIGN=\"AAAA\"]";
-
-const LAST_OCTET: &[u8] =
-    b"<110>1 - h s - - [ssign-cert VER=\"0111\" RSID=\"1\" SG=\"0\" SPRI=\"0\" TPBL=\"99999999\" INDEX=\"99999999\" \
-        FLEN=\"1\" FRAG=\"x\" SIGN=\"AAAA\"]";
 
 const SECOND_SESSION: &[u8] =
     b"<110>1 - h s - - [ssign-cert VER=\"0111\" RSID=\"2\" SG=\"0\" SPRI=\"0\" TPBL=\"27\" INDEX=\"1\" FLEN=\"27\" \
@@ -87,10 +73,6 @@ const SECOND_SESSION: &[u8] =
 const HOST_I: &[u8] =
     b"<110>1 - i s - - [ssign-cert VER=\"0111\" RSID=\"1\" SG=\"0\" SPRI=\"0\" TPBL=\"27\" INDEX=\"1\" FLEN=\"27\" \
         FRAG=\"2009-05-03T14:00:39Z K S0VZ\" SIGN=\"AAAA\"]";
-
-const OTHER_PAYLOAD_OF_HOST_I: &[u8] =
-    b"<110>1 - i s - - [ssign-cert VER=\"0111\" RSID=\"1\" SG=\"0\" SPRI=\"0\" TPBL=\"27\" INDEX=\"1\" FLEN=\"27\" \
-        FRAG=\"2009-05-03T14:00:40Z K S0VZ\" SIGN=\"AAAA\"]";
 
 const HOST_H1: &[u8] =
     b"<110>1 - h1 s - - [ssign-cert VER=\"0111\" RSID=\"1\" SG=\"0\" SPRI=\"0\" TPBL=\"27\" INDEX=\"1\" FLEN=\"27\" \
@@ -128,10 +110,6 @@ const SHORT_OF_SECOND_SESSION: &[u8] =
     b"<110>1 - h s - - [ssign VER=\"0111\" RSID=\"2\" SG=\"0\" SPRI=\"0\" GBC=\"0\" FMN=\"1\" CNT=\"1\" \
         HB=\"qZk+NkcGgWq6PiVxeFDCbJzQ2J0=\" SIGN=\"AAAA\"]";
 
-const SHORT_OF_HOST_I: &[u8] =
-    b"<110>1 - i s - - [ssign VER=\"0111\" RSID=\"1\" SG=\"0\" SPRI=\"0\" GBC=\"0\" FMN=\"1\" CNT=\"1\" \
-        HB=\"qZk+NkcGgWq6PiVxeFDCbJzQ2J0=\" SIGN=\"AAAA\"]";
-
 const SHORT_BESIDE_OTHERS: &[u8] =
     b"<110>1 - h s - - [x@1 SIGN=\"AAAA\"][ssign VER=\"0111\" RSID=\"1\" SG=\"0\" SPRI=\"0\" GBC=\"0\" FMN=\"1\" \
         CNT=\"1\" HB=\"qZk+NkcGgWq6PiVxeFDCbJzQ2J0=\" SIGN=\"AAAA\"][y@1 a=\"\\]\"] hello SIGN=\"AAAA\"";
@@ -145,12 +123,9 @@ pub(crate) fn octets_of(text: Text) -> &'static [u8] {
         Text::Front => FRONT,
         Text::Back => BACK,
         Text::OtherPayload => OTHER_PAYLOAD,
-        Text::LongerPayload => LONGER_PAYLOAD,
         Text::NoPayload => NO_PAYLOAD,
-        Text::LastOctet => LAST_OCTET,
         Text::SecondSession => SECOND_SESSION,
         Text::HostI => HOST_I,
-        Text::OtherPayloadOfHostI => OTHER_PAYLOAD_OF_HOST_I,
         Text::HostH1 => HOST_H1,
         Text::Both => BOTH,
         Text::ShortTwice => SHORT_TWICE,
@@ -160,7 +135,6 @@ pub(crate) fn octets_of(text: Text) -> &'static [u8] {
         Text::PastLastNumber => PAST_LAST_NUMBER,
         Text::ShortBySha256 => SHORT_BY_SHA_256,
         Text::ShortOfSecondSession => SHORT_OF_SECOND_SESSION,
-        Text::ShortOfHostI => SHORT_OF_HOST_I,
         Text::ShortBesideOthers => SHORT_BESIDE_OTHERS,
     }
 }
