@@ -39,6 +39,7 @@ LAW_CRATES = {
     "ss_clean_nights",
     "ss_counters",
     "ss_keeper",
+    "ss_linked",
     "ss_nights",
     "ss_once",
     "ss_parts",

@@ -1,0 +1,4 @@
+pub mod OneLink
+pub mod Chains
+pub mod SmallFiles
+pub mod SmallChain
