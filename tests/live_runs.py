@@ -1063,6 +1063,11 @@ def mistakes():
         tell("another session after a damaged state", differ("status", run.status, 0),
              differ("kept", len([each for each in os.listdir(it.path("state")) if each.startswith("damaged-")]), 2),
              *it.clean([message(n) for n in range(4)], 3))
+    with signer() as it:
+        it.run(framed([message(0)]), "--app=own")
+        run = it.run(framed([message(1)]), "--new-session")
+        named = sorted(each[:4] for each in os.listdir(it.path("out")) if each.endswith(".frames"))
+        tell("another session keeps the name that isn't given", differ("status", run.status, 0), differ("files", named, ["own-", "own-"]))
     for options, words in ((("--omprog", "--lines"), "--omprog goes without --lines"), (("--public=x",), "--public goes with"),
                            (("--messages=0",), "no number of messages"), (("--seconds=-1",), "no number of seconds"),
                            (("--host=two words",), "--host")):

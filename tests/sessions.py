@@ -389,6 +389,9 @@ def ends(trials: Trials) -> None:
     third = trials.sign(3, "--new-session")
     after = re.findall(rb'RSID="([0-9]+)"', third.out)[0]
     trials.holds("the next session has a greater RSID", int(after) > int(rsid))
+    trials.holds("and the names of the one before", b"<110>1 - other s - - [ssign-cert " in third.out)
+    renamed = trials.sign(3, "--new-session", "--app", "t", "--procid", "5")
+    trials.holds("but those that are given", b"<110>1 - other t 5 - [ssign-cert " in renamed.out)
     far = str(int(after) + 1000000)
     trials.sign(3, "--new-session", "--rsid", far)
     fourth = trials.sign(3, "--new-session")
@@ -518,8 +521,9 @@ def put_back(trials: Trials) -> None:
     kept = read("S/counters-7")
     trials.refused("an older copy of the session is put back", trials.sign(2), "the session S/session is older than counters-7 beside it, .*")
     trials.holds("it is left as it is", read("S/session") == files[0], read("S/counters-7") == kept)
-    said = trials.sign(2, "--new-session", *NAMES)
+    said = trials.sign(2, "--new-session")
     trials.holds("another session may begin then", said.status == 0, b'RSID="7"' not in said.out)
+    trials.holds("with the names of the older copy", b"<110>1 - h s - - [ssign-cert " in said.out)
     trials.holds("the counters that go further stay", read("S/counters-7") == kept)
     # a counters file that is gone, cut off or changed says nothing, and is written again
     for octets in (None, b"", b"count h s - 7 9\n", b"count h s - 7 9\nend 1\n"):

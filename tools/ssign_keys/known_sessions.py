@@ -152,6 +152,13 @@ class KnownSessions:
         self._can_keep = False
 
 
+def keep_names(arguments: argparse.Namespace, before: Dict[str, str]) -> None:
+    """Gives a session that begins the names of the one before, by its options, where none are given."""
+    for option in NAMED:
+        if not getattr(arguments, option):
+            setattr(arguments, option, [before[option]])
+
+
 def session_of(arguments: argparse.Namespace, rsid: Optional[int] = None) -> Optional[Session]:
     """The session that the words name, or None if ssign refuses these words."""
     texts = [only(getattr(arguments, it)) or USUAL_FIELDS[it] for it in NAMED]

@@ -45,8 +45,8 @@ def add_arguments(parser: argparse.ArgumentParser) -> None:
     parser.add_argument("--state", required=True, metavar="FOLDER", help="the folder of what is remembered over a stop")
     parser.add_argument("--out", required=True, metavar="FOLDER", help="the folder of the signed logs, which are named "
                         "APP-RSID-000001.frames and so on")
-    parser.add_argument("--new-session", action="store_true", help="begin another session; the one before ends, and its counters "
-                        "stay")
+    parser.add_argument("--new-session", action="store_true", help="begin another session; the one before ends, its counters stay, "
+                        "and names that aren't given are taken from it")
     parser.add_argument("--keep-session", action="store_true", help="go on in the session after the machine was started anew "
                         "(default: another one begins)")
     for name in NAMED:

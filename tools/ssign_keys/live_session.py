@@ -11,6 +11,7 @@ from .counters_file import lines_of
 from .defaults import fill, machine_name, most_hashes
 from .faults import Fault
 from .keys import PublicKey
+from .known_sessions import keep_names
 from .live_disk import OUT, STATE, Disk
 from .live_engine import LONGEST, Engine, Trouble
 from .live_log import Live, Older, older
@@ -66,7 +67,9 @@ class Starter:
             self._begin(-1)
             return
         is_new: bool = self._arguments.new_session
-        if not is_new:
+        if is_new:
+            keep_names(self._arguments, saved.session.options)
+        else:
             self._settle(saved.session)
         newer = self._newer(saved)
         try:

@@ -17,7 +17,7 @@ from .defaults import USUAL_FIELDS, fill, machine_name, most_hashes, only
 from .faults import Fault
 from .frames import frame_at
 from .keys import PublicKey
-from .known_sessions import KnownSessions, session_of
+from .known_sessions import KnownSessions, keep_names, session_of
 from .logs import Log, Part
 from .output import file_pieces, write_out
 from .programs import Run
@@ -61,7 +61,7 @@ def add_arguments(parser: argparse.ArgumentParser) -> None:
                         "its numbers; options that name the session, its payload or its blocks may be left out then, and "
                         "may not differ, but for --stamp, --count and --copies")
     parser.add_argument("--new-session", action="store_true", help="begin a session in the folder of --state; the one before "
-                        "ends there, and its counters stay")
+                        "ends there, its counters stay, and names that aren't given are taken from it")
 
 
 # ---- the words of a session
@@ -107,12 +107,14 @@ def is_number(word: str) -> bool:
 
 
 def begin(arguments: argparse.Namespace, state: SessionState, key: PublicKey, known: KnownSessions) -> Ongoing:
-    """A session that begins, with a greater RSID than each before."""
+    """A session that begins, with a greater RSID than each before, and the names of the one before where none are given."""
     last = state.last_rsid()
     ongoing = state.ongoing
     # of a session without certificate blocks nothing was written
     is_unused = ongoing is not None and not ongoing.certificates and ongoing.rsid > state.last_counted()
     given = only(arguments.rsid)
+    if state.before is not None:
+        keep_names(arguments, state.before.options)
     arguments.host = arguments.host or [machine_name()]
     if given is None:
         known.begin(arguments, state.next_rsid())

@@ -38,6 +38,8 @@ class SessionState:
         self._folder = folder
         self._is_new = is_new
         self.ongoing: Optional[Ongoing] = None
+        # the session in the folder, though it may be too old to go on
+        self.before: Optional[Ongoing] = None
 
     def __enter__(self) -> SessionState:
         """Locks the folder, and reads the session that goes on."""
@@ -99,7 +101,7 @@ class SessionState:
 
         An old one doesn't go on: where a session is begun, it is as if it weren't there.
         """
-        ongoing = self._read()
+        ongoing = self.before = self._read()
         further = None if ongoing is None else self._further(ongoing)
         if further is None:
             return ongoing
