@@ -148,6 +148,10 @@ def write_logs():
     write("zero", b"019 " + LINE % b"a")
     write("between", framed(two[0]) + b"\n" + framed(two[1]))
     write("ended", framed(*two) + b"\n")
+    write("returned", framed(two[0]) + b"\r\n" + framed(two[1]))
+    write("ended-crlf", framed(*two) + b"\r\n")
+    write("inner-return", framed(two[0]) + b"\r" + framed(two[1]))
+    write("fed", b"".join(framed(it) + b"\n" for it in (*two, *two)))
     with tarfile.open("tar", "w", tarfile.USTAR_FORMAT) as archive:
         archive.add("lines")
     write("inside", framed(two[0]) + b"1x " + two[1])
@@ -173,6 +177,23 @@ def write_nights():
     subprocess.run([KEYS, "verify", "--key", "keys/public-key.pem", "--counters-out", "counted", "signed"], stdout=subprocess.DEVNULL, check=False)
     with tarfile.open("tar-of-frames", "w", tarfile.USTAR_FORMAT) as archive:
         archive.add("signed")
+    for name, end in (("signed-fed", b"\n"), ("signed-crlf", b"\r\n")):
+        write(name, fed("signed", end))
+        with open("cured" + end.hex(), "wb") as cured:
+            subprocess.run(["sed", r"s/^[0-9]* //; s/\r$//", name], stdout=cured, check=True)
+
+
+def fed(name, end):
+    """A log of frames with these octets after each frame."""
+    with open(name, "rb") as file:
+        octets = file.read()
+    frames = []
+    while octets:
+        length = octets.index(b" ") + 1
+        length += int(octets[:length])
+        frames.append(octets[:length] + end)
+        octets = octets[length:]
+    return b"".join(frames)
 
 
 @functools.lru_cache(maxsize=None)
@@ -297,6 +318,11 @@ def table(program):
         "without line feeds after its frames, or as one message a line (F1)" % frame
     yield sign + ["ended"], b"", "ended: octet %d, a line feed, stands where the length of the next frame should begin: the log ends with it, so " \
         "leave it out (`head -c %d`) (F1)" % (2 * frame, 2 * frame)
+    yield sign + ["returned"], b"", "returned: octet %d, a carriage return, stands where the length of the next frame should begin: have the log " \
+        "stored without line feeds after its frames, or as one message a line (F1)" % frame
+    yield sign + ["ended-crlf"], b"", "ended-crlf: octet %d, a carriage return, stands where the length of the next frame should begin: the log " \
+        "ends with it, so leave it out (`head -c %d`) (F1)" % (2 * frame, 2 * frame)
+    yield sign + ["inner-return"], b"", "inner-return: octet %d, a carriage return, stands where the length of the next frame should begin (F1)" % frame
     for name in ("old", "dated"):
         yield sign + [name], b"", no_pri % (name, name)
     yield sign + ["-"], b"Jan 15 x\n", no_pri % ("standard input", "standard input")
@@ -410,6 +436,13 @@ def warnings():
     fed = "ssign-keys: %s: each damaged octet is a line feed %s. Have the log stored without it, because octets that nobody signed are a finding\n"
     yield verify + ["ended"], b"", 1, fed % ("ended", "after the last frame")
     yield verify + ["between"], b"", 1, fed % ("between", "between frames")
+    after_each = "ssign-keys: %s: a line feed stands between two frames, as if one came after each: then hardly a frame can be read. Have the log " \
+        "stored without line feeds after its frames. If no message holds a line feed, `sed 's/^[0-9]* //; s/\\r$//'` makes one message a line of " \
+        "it, for --lines\n"
+    for name in ("fed", "signed-fed", "signed-crlf"):
+        yield verify + [name], b"", 1, after_each % name
+    for name in ("cured0a", "cured0d0a"):
+        yield verify + ["--allow-sha1", name], b"", 0, ""
     yield verify + ["tar-of-frames"], b"", 1, said % ("tar-of-frames", "this is an archive of tar: hand over a log of it (`tar -xOf ARCHIVE LOG`)")
     part = "ssign-keys: the log may be a part of the session 'h - - 7', whose first numbers aren't in it: --from names the counters with which the " \
         "part before ends; without them, give all parts\n"

@@ -25,6 +25,8 @@ MAX_LEN = "65536"
 # the front of an explanation, `O6 or O6 PLACE: `, says what the number after a code is
 OPERAND = re.compile(r"(?:[A-Z][0-9]+ or )?[A-Z][0-9]+ (OFFSET|PLACE|LINE): ")
 LINE_FEED = "a line feed"
+# an LF, or a CR and an LF, where a frame should begin, and then a frame
+FED = re.compile(rb"\r?\n[1-9][0-9]{0,6} <[0-9]{1,3}>")
 UNEXPLAINED = "ssign refuses with a code that it doesn't explain"
 
 
@@ -157,10 +159,15 @@ def warn_of_damage(log: Log) -> None:
     cause = likely_cause(read_at(log.file, 0, FRONT)) if first.offset == 0 else None
     if cause not in (None, LINES):
         notify(f"ssign-keys: warning: {named(log.parts[0].name)}: {cause}")
+    name = log_name([it.name for it in log.parts])
     if log.damage.octets == len(log.damage) and all(read_at(log.file, it, 1) == b"\n" for it, _ in log.damage.gaps()):
         where = "after the last frame" if first.offset == log.size - 1 else "between frames"
-        notify(f"ssign-keys: {log_name([it.name for it in log.parts])}: each damaged octet is a line feed {where}. Have the log stored without it, because "
-               "octets that nobody signed are a finding")
+        notify(f"ssign-keys: {name}: each damaged octet is a line feed {where}. Have the log stored without it, because octets that "
+               "nobody signed are a finding")
+    elif FED.match(read_at(log.file, first.offset, FRONT)) is not None and first.offset > 0:
+        notify(f"ssign-keys: {name}: a line feed stands between two frames, as if one came after each: then hardly a frame can be read. "
+               "Have the log stored without line feeds after its frames. If no message holds a line feed, "
+               r"`sed 's/^[0-9]* //; s/\r$//'` makes one message a line of it, for --lines")
 
 
 # ---- own words: a cause that ssign doesn't know, or options that ssign doesn't have
@@ -196,14 +203,18 @@ def bad_length(case: Case) -> str:
             return f"{name}: {cause}"
     what = spelled(read_at(case.opened().file, case.where, 1))
     if octet == frame and frame > 0:
-        act = line_feed_act(case, octet) if what == LINE_FEED else ""
+        act = line_feed_act(case, octet)
         return f"{name}: octet {octet}, {what}, stands where the length of the next frame should begin{act}"
     return f"{name}: octet {octet}, {what}, can't stand in the length of the frame that begins at octet {frame}"
 
 
 def line_feed_act(case: Case, octet: int) -> str:
-    """What to do about a line feed after a frame."""
-    if case.where == case.opened().size - 1:
+    """What to do about an LF, or a CR and an LF, after a frame; nothing about other octets."""
+    size = case.opened().size
+    found = re.match(rb"\r?\n", read_at(case.opened().file, case.where, 2))
+    if found is None:
+        return ""
+    if case.where + len(found[0]) == size:
         return f": the log ends with it, so leave it out (`head -c {octet}`)"
     return ": have the log stored without line feeds after its frames, or as one message a line"
 
