@@ -381,6 +381,17 @@ def table(program):
     yield [KEYS, "vreify"], b"", near
     yield [KEYS, "help", "vreify"], b"", near
     yield [KEYS, b"v\xff"], b"", "there is no command v\\xff (see `ssign-keys --help`)"
+    for word, meant in (("VERIFY", "verify"), ("ver", "verify"), ("sig", "sign")):
+        yield [KEYS, word], b"", f"there is no command {word}: perhaps {meant} is meant (see `ssign-keys --help`)"
+    for word, meant in (("--verison", "--version"), ("-V", "--version"), ("--hlep", "--help")):
+        yield [KEYS, word], b"", f"there is no option {word}: perhaps {meant} is meant (see `ssign-keys --help`)"
+    yield [KEYS, "--key", "x", "verify"], b"", "there is no option --key (see `ssign-keys --help`)"
+    for word, meant in (("--any", "--any-order"), ("--KEY", "--key"), ("-k", "--key"), ("--man", "--manifest"), ("--Allow-SHA", "--allow-sha1")):
+        yield verify[:2] + [word, "x", "signed"], b"", f"there is no option {word}: perhaps {meant} is meant " + SEE % "verify"
+    yield verify + ["--findings", "-k", "x"], b"", "there is no option -k: perhaps --key is meant " + SEE % "verify"
+    for word in ("-z", "-s", "--zzz"):
+        yield verify + ["signed", word], b"", f"there is no option {word} " + SEE % "verify"
+    yield [KEYS, "make", "a", "b"], b"", "unrecognized arguments: b " + SEE % "make"
     yield [KEYS, "unheard-of", "--frame"], b"", "there is no command unheard-of (see `ssign-keys --help`)"
     yield [ARCHIVE, "reviwe"], b"", "there is no command reviwe: perhaps review is meant (see `ssign-archive --help`)"
     yield [ARCHIVE, "review", "--whoel", "x"], b"", "there is no option --whoel: perhaps --whole is meant (see `ssign-archive review --help`)"

@@ -134,9 +134,11 @@ def run(tool: Tool, words: Sequence[str]) -> int:
         refuse_unknown_command(tool, words[0])
         parser = make_parser(tool, words)
         refuse_unknown_option(tool, words, parser)
-        arguments = parser.parse_args(words)
+        arguments, unread = parser.parse_known_args(words)
+        if unread:
+            raise Mistake(f"unrecognized arguments: {' '.join(unread)} (see `{tool.name} {words[0]} --help`)")
     except Mistake as mistake:
-        raise Mistake(f"{mistake}{hint(words)}") from mistake
+        raise Mistake(f"{mistake}{hint(words, str(mistake))}") from mistake
     status: int = arguments.run(arguments)
     return status
 
@@ -149,39 +151,51 @@ def refuse_unknown_command(tool: Tool, word: str) -> None:
 
 def refuse_unknown_option(tool: Tool, words: Sequence[str], parser: Parser) -> None:
     """Refuses an option that the command hasn't, and names the nearest one. What else is wrong, the parser finds."""
-    command = words[0]
-    if command not in tool.commands:
-        return
+    command = words[0] if words[0] in tool.commands else ""
     known = options_of(parser, command)
-    for word in words[1:]:
+    for before, word in zip(("", *words), words):
         name = word.partition("=")[0]
-        if word == "--":
+        if word == "--" or not command and before:
             return
-        if word.startswith("--") and " " not in word and name not in known:
-            raise Mistake(f"there is no option {shown_name(name)}{nearest(name, known)} (see `{tool.name} {command} --help`)")
+        if name not in known and is_option(word, known.get(before)):
+            help_of = f"{tool.name} {command} --help" if command else f"{tool.name} --help"
+            raise Mistake(f"there is no option {shown_name(name)}{nearest(name, known)} (see `{help_of}`)")
 
 
-def options_of(parser: Parser, command: str) -> Sequence[str]:
-    """The options of a command."""
+def is_option(word: str, before: Optional[argparse.Action]) -> bool:
+    """Whether a word is meant as an option: not as the value of the option before it, nor as the name of a file."""
+    if word.startswith("--"):
+        return " " not in word
+    is_value = before is not None and before.nargs != 0
+    return re.match("-[A-Za-z]", word) is not None and not is_value and not os.path.lexists(word)
+
+
+def options_of(parser: Parser, command: str) -> Dict[str, argparse.Action]:
+    """The options of a command, by their names; without a command those that stand alone."""
     for action in parser._actions:
-        if isinstance(action, argparse._SubParsersAction) and command in action.choices:
-            return list(action.choices[command]._option_string_actions)
-    return []
+        if command and isinstance(action, argparse._SubParsersAction):
+            return dict(action.choices[command]._option_string_actions)
+    return dict(parser._option_string_actions)
 
 
 def nearest(word: str, known: Iterable[str]) -> str:
-    """The name that was meant, if one is near: without hyphens in front, which would make any two options alike."""
+    """The name that was meant: the shortest one that begins so, or one that is near. Capitals don't count.
+
+    The hyphens in front are left out, because they would make any two options alike. One letter may mean many names.
+    """
     names = {it.lstrip("-"): it for it in known if len(it) > 2}
-    near = difflib.get_close_matches(word.lstrip("-"), names, 1)
+    meant = word.lstrip("-").lower()
+    begun = sorted((it for it in names if meant and it.startswith(meant)), key=len)
+    near = difflib.get_close_matches(meant, names, 1) if not begun else begun[:1] if len(meant) > 1 or len(begun) == 1 else []
     return f": perhaps {names[near[0]]} is meant" if near else ""
 
 
-def hint(words: Sequence[str]) -> str:
-    """What helps with a word that begins with a hyphen and is no option."""
+def hint(words: Sequence[str], complaint: str) -> str:
+    """What helps with a word that begins with a hyphen and is no option, by what the complaint is about."""
     for before, word in zip(words, words[1:]):
         if word.startswith("-") and word not in ("-", "-h", "--help") and os.path.lexists(word):
             return f"; the file {shown_name(word)} is named ./{shown_name(word)}"
-        if re.fullmatch(r"--[a-z][a-z-]*", before) and re.match(r"-[^-]", word):
+        if complaint.startswith(f"argument {before}: ") and re.match(r"-[^-]", word):
             return f"; a value that begins with a hyphen is given as in {before}={shown_name(word)}"
     return ""
 
