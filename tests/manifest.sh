@@ -229,6 +229,14 @@ finds 'check: as JSON' 1 '{"line":"manifest","kind":"skipped","where":"line 5","
     '{"line":"total","status":1,"entries":5,"logs":6,"findings":1,"last":"5:'"$(tail -n 1 manifest | sha256sum | cut -c 1-64)"'"}'
 tool manifest check manifest nights --logs 'night-[12]*'
 finds 'check: a pattern' 1 "night-3.frames: missing, entry 3 names it, and it isn't here"
+mkdir bare
+: >none
+tool manifest check none bare
+finds 'check: nothing to compare' 1 'manifest: empty, it names no log, and none is here: so nothing is shown' \
+    '1 finding. 0 entries, 0 logs; the last entry is 0:0000000000000000000000000000000000000000000000000000000000000000'
+tool manifest check none bare --json
+finds 'check: nothing to compare, as JSON' 1 '{"line":"manifest","kind":"empty","where":"manifest","entry":null,"what":"empty, it names no log, and none is here: so nothing is shown"}' \
+    '{"line":"total","status":1,"entries":0,"logs":0,"findings":1,"last":"0:0000000000000000000000000000000000000000000000000000000000000000"}'
 tool manifest check manifest nowhere
 refuses 'check: no folder' "the folder nowhere can't be read: No such file or directory"
 mkfifo nights/pipe

@@ -258,7 +258,10 @@ def differs(stored: Stored, number: int, size: int, sha256: str) -> Optional[Fou
 
 
 def of_logs(manifest: Manifest, logs: Sequence[Stored]) -> List[Found]:
-    """What is wrong with all logs that are there, and which are missing. One that was copied away may be gone."""
+    """What is wrong with all logs that are there, and which are missing. One that was copied away may be gone.
+
+    Where there is nothing to compare, that is a finding too: somebody may have emptied both.
+    """
     names = Names(manifest)
     found = [it for it in map(names.look, logs) if it is not None]
     here, copied = {it.name for it in logs}, manifest.copied
@@ -267,6 +270,8 @@ def of_logs(manifest: Manifest, logs: Sequence[Stored]) -> List[Found]:
             if file is not None and file.name not in here and (file.name, file.sha256) not in copied:
                 found.append(Found(shown_name(file.name), f"missing, entry {entry.number} names it, and it isn't here",
                                    entry.number))
+    if not manifest.entries and not logs:
+        found.append(Found("manifest", "empty, it names no log, and none is here: so nothing is shown"))
     return found
 
 
