@@ -27,6 +27,19 @@ is_elf() {
     IFS= read -r -d '' -n 4 start <"$program" && [[ $start == $'\177ELF' ]]
 }
 
+# stray: names the first file among the sources that has no name of one, such as a copy that an editor left.
+stray() {
+    local line name
+    while IFS= read -r -d '' line; do
+        # after the hash and two spaces
+        name=${line:66}
+        if [[ $name != *.rt && $name != *.antt && $name != crates.txt ]]; then
+            printf ' (%q stands among them, and is none: move it away)' "$name"
+            return
+        fi
+    done < <(bash "$folder/sources.sh" --list 2>/dev/null)
+}
+
 [[ -f $program ]] || found "isn't there"
 [[ -f $program.txt ]] || found 'has no text beside it'
 { mapfile -t lines <"$program.txt"; } 2>/dev/null || found 'has a text that cannot be read'
@@ -39,6 +52,6 @@ sources_told=${BASH_REMATCH[2]}
 sum=$(sha256sum 2>/dev/null <"$program") || found 'cannot be read'
 [[ ${sum%% *} == "$sum_told" ]] || found "hasn't the SHA-256 that its text gives"
 sources=$(bash "$folder/sources.sh" 2>&1) || found "cannot be compared with the sources: $sources"
-[[ $sources == "$sources_told" ]] || found 'is of other sources'
+[[ $sources == "$sources_told" ]] || found "is of other sources$(stray)"
 [[ -x $program ]] || found 'may not be executed (chmod +x)'
 { is_elf && "$program" --version </dev/null >/dev/null; } 2>/dev/null || found "doesn't run on this machine"

@@ -234,6 +234,11 @@ done
 with_record
 mv -- "$copy/crates/ss_frame/src/lib.rt" "$copy/crates/ss_frame/src/bil.rt"
 none 'a file with another name' "$recorded_is is $of_others"
+for part in src/chunk.rt~ specs/.Frame.antt.swp; do
+    with_record
+    echo more >"$copy/crates/ss_frame/$part"
+    none "a stray file $part" "$recorded_is is $of_others (crates/ss_frame/$part stands among them, and is none: move it away)"
+done
 with_record
 put_built
 other_source
