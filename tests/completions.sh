@@ -72,7 +72,7 @@ values() {
 behind() {
     case "$1 $2" in
     'ssign explain') tr ' ' '\n' <<<"$codes" ;;
-    'ssign-keys explain') tr ' ' '\n' <<<"$codes L1 L2 L3 L4 L5 L6 L7 T1 T2 T3 T4" ;;
+    'ssign-keys explain') tr ' ' '\n' <<<"$codes L1 L2 L3 L4 L5 L6 L7 T1 T2 T3 T4 gone unproved manifest SHA-1 strangers" ;;
     *' help') commands "$1" | grep -vx help ;;
     # it has options alone
     'ssign-keys live') return 1 ;;

@@ -193,7 +193,13 @@ if python3 -c 'import cryptography' 2>"$scratch/err"; then
     done
     explained --json
     holds 'ssign-keys explain --json begins as that of ssign' cmp -- <(head -n "$(wc -l <"$scratch/all")" "$scratch/out") "$scratch/all"
-    holds 'its own codes follow' test "$(($(wc -l <"$scratch/out") - $(wc -l <"$scratch/all")))" = 11
+    words=$(tail -n +"$(($(wc -l <"$scratch/all") + 12))" "$scratch/out" | sed -E 's/.*"code":"([^"]*)".*/\1/' | tr '\n' ,)
+    holds 'its own codes follow, and the words of a verdict that no report has' \
+        test "$words" = 'gone,changed or replaced,missing up to the counters,unproved,missing blocks,out of order,manifest,not joined,SHA-1,strangers,'
+    explained out of order
+    expect 'ssign-keys explain out of order' 0 "Of a group that is out of order: listed messages don't stand in the order of their numbers." ''
+    explained Unproved
+    expect 'ssign-keys explain Unproved' 0 "Of a stored message that is unproved: a block that isn't validly signed has its hash: the signer's own, damaged, or a stranger's." ''
     explained nothing
     expect 'ssign-keys explain nothing' 2 '' 'ssign-keys: no explanation of "nothing": `ssign-keys explain --json` has all codes'
     explained

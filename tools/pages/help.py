@@ -158,8 +158,8 @@ def read_program(path: str, name: str) -> Program:
 
 
 def read_codes(path: str) -> Dict[str, str]:
-    """The text of each code that the program prints, in its order."""
+    """The text of each code that the program prints, in its order. Of a code of several words none is completed."""
     try:
-        return {it.code: it.text for it in read_explanations(path) if it.table != UNPRINTED}
+        return {it.code: it.text for it in read_explanations(path) if it.table != UNPRINTED and " " not in it.code}
     except (ValueError, subprocess.SubprocessError) as fault:
         raise Unreadable(f"{path} explains no codes: {fault}") from fault

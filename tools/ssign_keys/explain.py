@@ -4,11 +4,12 @@ from __future__ import annotations
 import argparse
 import re
 import subprocess
-from typing import List
+from typing import List, Sequence
 
 from .explanations import Explanation, read_explanations
 from .faults import Fault
 from .json_text import compact
+from .longest import KINDS
 from .output import print_text
 from .programs import add_program_argument, find_program
 from .texts import quoted
@@ -53,6 +54,7 @@ def add_arguments(parser: argparse.ArgumentParser) -> None:
 def run(arguments: argparse.Namespace) -> int:
     """Prints what a code means. What stands after it isn't looked at."""
     code = asked(arguments.code)
+    words = " ".join(arguments.code).lower()
     if not code and not arguments.json:
         raise Fault("name a code or a word of the output, as in `ssign-keys explain S3`")
     program = find_program(arguments)
@@ -60,11 +62,18 @@ def run(arguments: argparse.Namespace) -> int:
         known = [*read_explanations(program), *(Explanation(OWN, it, text) for it, text in CODES.items())]
     except (OSError, ValueError, subprocess.SubprocessError) as fault:
         raise Fault(f"{quoted(program)} gives no explanations: {fault}") from fault
-    found = [it for it in known if not code or it.code.lower() == code.lower()]
+    known += words_of_a_verdict(known)
+    found = [it for it in known if not code or it.code.lower() in (code.lower(), words)]
     if not found:
         raise Fault(f"no explanation of {quoted(code)}: `ssign-keys explain --json` has all codes")
     print_text("".join(f"{spelled(it) if arguments.json else it.text}\n" for it in found))
     return 0
+
+
+def words_of_a_verdict(known: Sequence[Explanation]) -> List[Explanation]:
+    """The words for findings that a report hasn't."""
+    codes = {it.code for it in known}
+    return [Explanation(OWN, word, f"Of a {it.noun} that is {it.state}: {it.meaning}.") for word, it in KINDS.items() if word not in codes]
 
 
 def asked(words: List[str]) -> str:
