@@ -32,6 +32,9 @@ import ssign_keys.verify
 
 TOOLS = {KEYS: ssign_keys.cli.main, ARCHIVE: ssign_archive.cli.main}
 LINE = b"<13>1 - - - - - - %s"
+# how files of each form of compression begin that no tool of ours expands, and what expands them
+PACKED = {b"\x1f\x9d": ("compress", "zcat"), b"7z\xbc\xaf\x27\x1c": ("7-Zip", "7z x -so"), b"LZIP\1": ("lzip", "lzip -dc"),
+          b"Rar!\x1a\x07\1": ("RAR", "unrar p -inul")}
 SEE = "(see `ssign-keys %s --help`)"
 GUESS = "it is read as one message a line, as it begins with a line of text; --frames reads octet counts"
 # the four orders of octets of pcap, and pcapng: draft-ietf-opsawg-pcap, section 4, and draft-ietf-opsawg-pcapng, section 4.1
@@ -251,7 +254,12 @@ def table(program):
         yield at_end + ["bom"], b"", "bom: it begins with a byte order mark, which is no part of a message: remove it (`tail -c +4`) (F1)"
         yield at_end + ["wide"], b"", "wide: this is a text in UTF-16, and a log is stored as it was sent (F1)"
         yield at_end + ["keys/public-key.pem"], b"", "keys/public-key.pem: this is a file of keys or certificates, and no log (F1)"
-        yield at_end + ["blank"], b"", "blank: it begins with an empty line: remove that, and use --lines (F1)"
+        begins = "it begins with %s, and no message is empty: remove %s (`tail -n +2`) (F1)"
+        yield at_end + ["blank"], b"", "blank: " + begins % ("a line feed", "it")
+        yield at_end + ["-"], b"\r\n" + lines(LINE % b"a"), "standard input: " + begins % ("a CR and a line feed", "them")
+        for front, packer in PACKED.items():
+            yield at_end + ["-"], front + b"....", "standard input: " + compressed % packer
+        yield at_end + ["-"], b"ElfFile\0....", "standard input: this is an event log of Windows, and no log of messages (F1)"
         yield at_end + ["binary"], b"", "binary: octet 0, `\\x00`, can't stand in the length of the frame that begins at octet 0 (F1)"
         yield at_end + ["--max-len", "10", "frames"], b"", \
             "frames: the length of a frame is over --max-len 10 with its digit at octet 1: raise it, up to 1048576 (F2)"

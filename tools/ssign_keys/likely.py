@@ -19,19 +19,24 @@ KINDS = (
     (0, b"BZh", PACKED % ("bzip2", "bzcat")),
     (0, b"PK\x03\x04", PACKED % ("zip", "unzip -p")),
     (0, b"\x04\x22\x4d\x18", PACKED % ("lz4", "lz4cat")),
+    (0, b"\x1f\x9d", PACKED % ("compress", "zcat")),
+    (0, b"7z\xbc\xaf\x27\x1c", PACKED % ("7-Zip", "7z x -so")),
+    (0, b"LZIP", PACKED % ("lzip", "lzip -dc")),
+    (0, b"Rar!\x1a\x07", PACKED % ("RAR", "unrar p -inul")),
     # POSIX.1-2001, pax
     (257, b"ustar", "this is an archive of tar: hand over a log of it (`tar -xOf ARCHIVE LOG`)"),
     # the four orders of octets of pcap, and pcapng
     *((0, it, CAPTURE) for it in (b"\xd4\xc3\xb2\xa1", b"\xa1\xb2\xc3\xd4", b"\x4d\x3c\xb2\xa1", b"\xa1\xb2\x3c\x4d",
                                 b"\x0a\x0d\x0d\x0a")),
     *((0, it, JOURNAL) for it in (b"LPKSHHRH", b"__CURSOR=", b"__REALTIME_TIMESTAMP=", b'{"__CURSOR"', b'{"__REALTIME_TIMESTAMP"')),
+    (0, b"ElfFile\0", "this is an event log of Windows, and no log of messages"),
     *((0, it, OBJECTS) for it in (b"{", b"[{")),
     (0, b"\xef\xbb\xbf", "it begins with a byte order mark, which is no part of a message: remove it (`tail -c +4`)"),
     (0, b"\xff\xfe", WIDE),
     (0, b"\xfe\xff", WIDE),
     (0, b"-----BEGIN ", "this is a file of keys or certificates, and no log"),
-    (0, b"\n", "it begins with an empty line: remove that, and use --lines"),
-    (0, b"\r", "it begins with an empty line: remove that, and use --lines"),
+    (0, b"\n", "it begins with a line feed, and no message is empty: remove it (`tail -n +2`)"),
+    (0, b"\r\n", "it begins with a CR and a line feed, and no message is empty: remove them (`tail -n +2`)"),
 )
 FRAMED = re.compile(rb"[1-9][0-9]{0,6} ")
 SURELY_FRAMED = re.compile(rb"[1-9][0-9]{0,6} <[0-9]{1,3}>1 ")
