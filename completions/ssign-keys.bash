@@ -137,6 +137,8 @@ _ssign_keys() {
     'check --key') _ssign_keys_offer files ;;
     'check --ca') _ssign_keys_offer files ;;
     'check --trust') _ssign_keys_offer files ;;
+    'check --tsa-ca') _ssign_keys_offer files ;;
+    'check --tsa-ca-anchor') _ssign_keys_offer files ;;
     'check --max-expanded') _ssign_keys_offer text ;;
     'check --match') _ssign_keys_offer text ;;
     'check --jobs') _ssign_keys_offer text ;;
@@ -158,6 +160,7 @@ _ssign_keys() {
     'stamp --out') _ssign_keys_offer text ;;
     'stamp --tsa-ca') _ssign_keys_offer files ;;
     'stamp --tsa-ca-anchor') _ssign_keys_offer files ;;
+    'stamp --folder') _ssign_keys_offer folders ;;
     'seal --state') _ssign_keys_offer files ;;
     'seal --rsid') _ssign_keys_offer text ;;
     'seal --host') _ssign_keys_offer text ;;
@@ -203,7 +206,7 @@ _ssign_keys_words() {
         ;;
     check)
         if [[ $2 == -* ]]; then
-            _ssign_keys_offer words '--help --memory --accept --why --expect --keep --read --status --head --key --ca --trust --allow-sha1 --max-expanded --match --begin --json --jobs --ssign'
+            _ssign_keys_offer words '--help --memory --accept --why --expect --keep --read --status --head --key --ca --trust --allow-sha1 --tsa-ca --tsa-ca-anchor --max-expanded --match --begin --json --jobs --ssign'
         else
             _ssign_keys_offer folders
         fi
@@ -217,7 +220,7 @@ _ssign_keys_words() {
         ;;
     stamp)
         if [[ $2 == -* ]]; then
-            _ssign_keys_offer words '--help --tsa --tsa-command --tsa-seconds --out --tsa-ca --tsa-ca-anchor'
+            _ssign_keys_offer words '--help --tsa --tsa-command --tsa-seconds --out --tsa-ca --tsa-ca-anchor --folder'
         else
             _ssign_keys_offer files
         fi

@@ -495,7 +495,7 @@ class Bench:
         lines = out.decode().splitlines()
         if status > 1 or not lines:
             return status, [], [], [err]
-        names = [it.partition(": ")[0] for it in lines[:-1] if not it.startswith("accepted: ")]
+        names = [it.partition(": ")[0] for it in lines[:-1] if not it.startswith(("accepted: ", "stamp: "))]
         accepted = [it.split(": ")[1] for it in lines[:-1] if it.startswith("accepted: ")]
         return status, sorted(names), sorted(accepted), lines
 

@@ -1,4 +1,7 @@
-"""Has a time stamp service sign when a counters file or a manifest existed (RFC 3161), and keeps its answer beside the file."""
+"""Has a time stamp service sign when a file existed (RFC 3161): counters, a manifest, or the newest signed file of a folder.
+
+Its answer is kept beside the file.
+"""
 from __future__ import annotations
 
 import argparse
@@ -6,8 +9,10 @@ import contextlib
 import os
 import secrets
 import stat
-from typing import NamedTuple
+from typing import Callable, NamedTuple, Optional
 
+from .chain.folder import Busy, Chain, Folder
+from .chain.reading import bare, digests, open_in, plain_pieces
 from .commands import ask
 from .digests import sum_of
 from .faults import Fault
@@ -16,16 +21,19 @@ from .numbers import number
 from .page_file import name_new
 from .rfc3161 import LONGEST, check_stamp, read_authorities
 from .stamped import ENDING, MOST_SECONDS, SECONDS, add_authorities
-from .store import sync_folder
+from .store import open_folder, sync_folder
 from .streams import Output
 from .tsa import ask_command, ask_url, read_url
 from .words import shown_name
-from .workplace import Workplace, finish, put
+from .workplace import Workplace, finish, notify, put
 
 
 def add_arguments(parser: argparse.ArgumentParser) -> None:
     """Says which words the command takes."""
-    parser.add_argument("file", metavar="FILE", help="the file to be stamped, such as counters or a manifest")
+    what = parser.add_mutually_exclusive_group(required=True)
+    what.add_argument("file", nargs="?", metavar="FILE", help="the file to be stamped, such as counters or a manifest")
+    what.add_argument("--folder", metavar="DIR", help="stamp the newest signed file of DIR, of `ssign-keys sign --folder`, as "
+                      f"LOG.frames{ENDING} beside it, unless that is there: `ssign-keys check` reads it")
     service = parser.add_mutually_exclusive_group(required=True)
     service.add_argument("--tsa", metavar="URL", help="ask the time stamp service at this address, by http or https")
     service.add_argument("--tsa-command", metavar="COMMAND", help="ask it by this command of the shell, which reads the request "
@@ -44,30 +52,77 @@ class Seen(NamedTuple):
     sha256: str
 
 
+class Target(NamedTuple):
+    """What is to be stamped."""
+
+    path: str
+    wanted: str
+    """The file of the time stamp."""
+    look: Callable[[Workplace], Seen]
+
+
 def run(arguments: argparse.Namespace) -> int:
     """Keeps the time stamp of the file, and prints what it shows."""
-    wanted = arguments.out if arguments.out is not None else arguments.file + ENDING
-    refuse_taken(wanted)
+    target = target_of(arguments)
+    if target is None:
+        return 0
+    refuse_taken(target.wanted)
     if arguments.tsa is not None:
         read_url(arguments.tsa)
     if not (arguments.tsa_ca or arguments.tsa_ca_anchor):
         raise Fault("a time stamp needs the authority of its service: --tsa-ca CA.pem")
     authorities = read_authorities(arguments.tsa_ca, arguments.tsa_ca_anchor)
-    seen = look(arguments.file)
     with Workplace() as workplace:
+        seen = target.look(workplace)
         query = make_query(seen, workplace)
         octets = ask_service(arguments, query, workplace)
-        stamped = check_stamp(octets, wanted, {"file": seen.sha256}, authorities, workplace, query)
-        if look(arguments.file) != seen:
-            raise Fault(f"{shown_name(arguments.file)} was changed while it was stamped, so the time stamp isn't kept")
-        keep(octets, wanted)
+        stamped = check_stamp(octets, target.wanted, {"file": seen.sha256}, authorities, workplace, query)
+        if target.look(workplace) != seen:
+            raise Fault(f"{shown_name(target.path)} was changed while it was stamped, so the time stamp isn't kept")
+        keep(octets, target.wanted)
     try:
         with Output() as output:
-            output.add(f"{stamped.sentence(shown_name(arguments.file))}\n".encode("utf-8", "backslashreplace"))
+            output.add(f"{stamped.sentence(shown_name(target.path))}\n".encode("utf-8", "backslashreplace"))
             output.release()
     except Fault as fault:
-        raise Fault(f"the time stamp stands in {shown_name(wanted)}, but {fault}") from fault
+        raise Fault(f"the time stamp stands in {shown_name(target.wanted)}, but {fault}") from fault
     return 0
+
+
+def target_of(arguments: argparse.Namespace) -> Optional[Target]:
+    """What the options name; None where the newest file of a folder has its time stamp, or there is none yet."""
+    if arguments.folder is None:
+        path = arguments.file
+        return Target(path, arguments.out if arguments.out is not None else path + ENDING, lambda _: look(path))
+    if arguments.out is not None:
+        raise Fault(f"--out doesn't go with --folder, which keeps the time stamp as LOG.frames{ENDING}")
+    try:
+        with Folder(arguments.folder) as folder, Workplace() as workplace:
+            folder.read()
+            newest = Chain(folder, workplace).newest()
+            if newest is None:
+                notify(f"ssign-keys: the folder {folder.name} has no signed file yet, so nothing is stamped")
+            if newest is None or bare(newest.name) + ENDING in folder.entries:
+                return None
+    except Busy:
+        notify(f"ssign-keys: another run signs the folder {shown_name(arguments.folder)} now; the next run stamps its newest "
+               "file")
+        return None
+    name = newest.name
+    path = os.path.join(arguments.folder, name)
+    return Target(path, os.path.join(arguments.folder, bare(name)) + ENDING,
+                  lambda workplace: look_in(arguments.folder, name, workplace))
+
+
+def look_in(path: str, name: str, workplace: Workplace) -> Seen:
+    """The size and the SHA-256 of a signed file of a folder, expanded, as the file after it names it."""
+    folder = open_folder(path)
+    try:
+        with open_in(folder, name) as file:
+            found = digests(plain_pieces(file, name, workplace))
+    finally:
+        os.close(folder)
+    return Seen(found.size, found.sha256)
 
 
 def refuse_taken(wanted: str) -> None:

@@ -3,7 +3,7 @@ from __future__ import annotations
 
 import argparse
 import os
-from typing import Dict, List, Set, Tuple
+from typing import Dict, List, Optional, Set, Tuple
 
 from ..faults import Fault
 from ..output import write_out
@@ -20,6 +20,7 @@ from .options import Options, read_options
 from .originator import Originator
 from .record import digest
 from .report import Report
+from .stamps import Checker, make_checker
 from .status import read_status, write_status
 from .verdicts import Pool, Work
 
@@ -41,9 +42,10 @@ def run(arguments: argparse.Namespace) -> int:
     try:
         with Workplace() as workplace:
             refuse_places(folders, options)
+            checker = make_checker(options.tsa_ca, options.tsa_ca_anchor, workplace)
             memory = Memory(options.memory, options.is_begun)
             refuse_unknown(folders, memory)
-            report = Check(options, judges, memory, workplace, progress).run(folders)
+            report = Check(options, judges, memory, workplace, progress).run(folders, checker)
         progress.clear()
         text = report.json() if options.is_json else report.text(options.shows_head)
         write_out([text.encode("utf-8", "backslashreplace")])
@@ -79,7 +81,7 @@ class Check:
         self._progress = progress
         self._now = now()
 
-    def run(self, folders: Dict[str, str]) -> Report:
+    def run(self, folders: Dict[str, str], checker: Optional[Checker]) -> Report:
         """All of it. What was found stands in the memory afterwards, and in the status file."""
         memory, options = self._memory, self._options
         status = None if options.status is None else read_status(options.status)
@@ -90,7 +92,7 @@ class Check:
         originators = [Originator(name, path, memory.record(name), options, self._now, memory.count, file_place(name) in doubted)
                        for name, path in sorted(folders.items())]
         reader = Reader(self._workplace, self._progress, options.keys.max_expanded)
-        self._verify(originators, reader)
+        self._verify(originators, reader, checker)
         for it in originators:
             it.judge(reader)
         self._find_copies(originators)
@@ -102,12 +104,12 @@ class Check:
             write_status(options.status, report.status_fields(), self._now, status, mark)
         return report
 
-    def _verify(self, originators: List[Originator], reader: Reader) -> None:
-        """Has each file be verified that isn't known. A verdict soon stands on the disk, because all of them may take hours."""
+    def _verify(self, originators: List[Originator], reader: Reader, checker: Optional[Checker]) -> None:
+        """Has each file be verified that isn't known. A verdict soon stands on the disk: all of them may take hours."""
         by_name = {it.name: it for it in originators}
         works: List[Work] = []
         for it in originators:
-            works += it.read(reader, self._judges)
+            works += it.read(reader, self._judges, checker)
         unsaved: Set[str] = set()
         pool = Pool(self._judges, self._options.jobs, self._workplace, self._progress)
         for count, (work, judged) in enumerate(pool.judge(works), 1):

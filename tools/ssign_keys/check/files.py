@@ -12,6 +12,7 @@ from ..faults import Fault
 from ..files import open_regular, reason
 from ..logs import Log, open_log
 from ..progress import Progress
+from ..stamped import ENDING
 from ..words import shown_name
 from ..workplace import Workplace
 from .record import Stat
@@ -51,6 +52,8 @@ class Folder(NamedTuple):
     asides: Dict[str, Lying]
     """By their names without what a compression adds."""
     logs: List[Lying]
+    stamps: List[Lying]
+    """Time stamps of signed files."""
 
 
 def bare_name(name: str) -> str:
@@ -65,7 +68,7 @@ def is_signed_name(name: str) -> bool:
 
 def look(folder: str, patterns: Sequence[str]) -> Folder:
     """Looks into a folder. Raises OSError. Files of other names, and those that begin with a dot, are no concern of a check."""
-    signed, asides, logs = [], {}, []
+    signed, asides, logs, stamps = [], {}, [], []
     for name in sorted(it for it in os.listdir(folder) if not it.startswith(".")):
         try:
             seen = os.lstat(os.path.join(folder, name))
@@ -77,11 +80,13 @@ def look(folder: str, patterns: Sequence[str]) -> Folder:
         it = Lying(name, bare, os.path.join(folder, name), facts, int(seen.st_mtime))
         if bare.endswith(SIGNED):
             signed.append(it)
+        elif name.endswith(ENDING) and is_signed_name(name[:-len(ENDING)]):
+            stamps.append(it)
         elif bare.endswith(ASIDE):
             asides[bare] = it
         elif stat.S_ISREG(seen.st_mode) and is_log_name(name, patterns):
             logs.append(it)
-    return Folder(signed, asides, logs)
+    return Folder(signed, asides, logs, stamps)
 
 
 def is_log_name(name: str, patterns: Sequence[str]) -> bool:
@@ -95,7 +100,7 @@ class Reader:
     """Reads files, each expanded, and takes their SHA-256."""
 
     def __init__(self, workplace: Workplace, progress: Progress, max_expanded: Optional[int]) -> None:
-        self._workplace = workplace
+        self.workplace = workplace
         self._progress = progress
         self._max_expanded = max_expanded
         self._count = 0
@@ -110,7 +115,7 @@ class Reader:
         self._count += 1
         self._progress.show("reading files", self._count, 0, "files")
         try:
-            log = open_log([it.path], False, self._workplace, self._progress, self._max_expanded)
+            log = open_log([it.path], False, self.workplace, self._progress, self._max_expanded)
             with log.file:
                 return log.size, sums_of(log, ends)
         except (Fault, OSError) as fault:

@@ -42,6 +42,8 @@ KINDS: Dict[str, Kind] = {
     "log": Kind("A log isn't as it was signed.", "make it anew from its signed file, or put the copy back; or accept it"),
     "aside": Kind("The file of messages that were set aside is missing or differs from what the signed file names.",
                   "put the copy back; or accept the loss"),
+    "stamp": Kind("A time stamp beside a signed file doesn't hold, or one that was seen isn't there any more.",
+                  "put the copy of it, or of its file, back; or accept it"),
     "unsigned": Kind("A log has octets that no signed file holds.", "see why the signer doesn't sign it; or move it away"),
     "new": Kind("An originator wasn't seen before.", "accept it, if you know it"),
     "quiet": Kind("No signed file came in time.", "look at the machine, its signer and the copying"),

@@ -72,14 +72,19 @@ class Judges:
         *names, rsid = file.session
         host, app, procid = (it.encode("latin-1") for it in names)
         signer = Identity("", file.key, None, "-")
-        answer = self.file.judge(Session(host, app, procid, b"%d" % rsid), signer, Seen.at(file.seen, FIRST))
+        answer = self.file.judge(Session(host, app, procid, b"%d" % rsid), signer, Seen.at(file.judged, FIRST))
         return answer.answer == TRUSTED
 
-    def trust_at(self, seen: int) -> Trust:
-        """The keys for a file whose octets were seen first at so many seconds."""
+    @property
+    def has_times(self) -> bool:
+        """Whether a verdict depends on when a file was seen."""
+        return self.file is not None and any(it.limits.has_end or it.authority for it in self.file.lines)
+
+    def trust_at(self, seen: int, how: str) -> Trust:
+        """The keys for a file whose octets existed at so many seconds, by what shows that."""
         if self.file is None:
             return self.trust
-        return FileTrust(self.file, Seen.at(seen, FIRST), False, self.trust.longest)
+        return FileTrust(self.file, Seen.at(seen, how), False, self.trust.longest)
 
 
 def add_arguments(parser: argparse.ArgumentParser) -> None:

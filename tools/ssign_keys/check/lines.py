@@ -24,9 +24,11 @@ NONE: type = type(None)
 FORMS: Dict[str, Dict[str, Tuple[type, ...]]] = {
     "begin": {"time": (int,), "known": (bool,)},
     "file": {"sha256": (str,), "name": (str,), "status": (int,), "said": (str,), "session": (list, NONE), "key": (str, NONE),
-             "link": (str, NONE), "of": (list,), "seen": (int,)},
+             "link": (str, NONE), "of": (list,), "seen": (int,), "stamped": (int, NONE)},
     "read": {"name": (str,), "stat": (list,), "sha256": (str,)},
     "log": {"name": (str,), "stat": (list,), "size": (int,), "sums": (dict,), "sha256": (str,), "since": (int,)},
+    "stamp": {"name": (str,), "stat": (list,), "sha256": (str,), "latest": (int,), "when": (str,), "service": (str,),
+              "of": (str,)},
     "held": {"files": (list,)},
     "accept": {"name": (str,), "fact": (str,), "why": (str,), "time": (int,)},
     "lapse": {"name": (str,)},

@@ -8,6 +8,7 @@ from dataclasses import dataclass
 from typing import Optional, Tuple
 
 from .. import expand as expand_options
+from .. import stamped
 from ..faults import Fault
 from ..numbers import MOST_JOBS, number
 from ..programs import add_program_argument, find_program
@@ -42,6 +43,8 @@ class Options:
     status: Optional[str]
     shows_head: bool
     is_json: bool
+    tsa_ca: Tuple[str, ...]
+    tsa_ca_anchor: Tuple[str, ...]
 
     @property
     def late(self) -> int:
@@ -80,6 +83,7 @@ def add_arguments(parser: argparse.ArgumentParser) -> None:
     parser.add_argument("--head", action="store_true", help="also print the newest file of each originator, with its SHA-256")
     parser.add_argument("--json", action="store_true", help="print an object of JSON for each finding, each originator and "
                         "the verdict")
+    stamped.add_authorities(parser)
     add_program_argument(parser)
     parser.add_argument("folders", nargs="+", metavar="DIR", help="the folder of an originator, by whose name it is known; or "
                         "one that holds such folders")
@@ -95,7 +99,7 @@ def read_options(arguments: argparse.Namespace) -> Options:
     return Options(tuple(arguments.folders), keys, find_program(arguments), arguments.memory, arguments.begin,
                    tuple(arguments.accept), arguments.why or "", arguments.expect, arguments.keep,
                    tuple(arguments.match or MATCH), arguments.read == "all", arguments.jobs, arguments.status,
-                   arguments.head, arguments.json)
+                   arguments.head, arguments.json, tuple(arguments.tsa_ca), tuple(arguments.tsa_ca_anchor))
 
 
 def utc(seconds: int) -> str:

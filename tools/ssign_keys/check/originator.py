@@ -7,13 +7,14 @@ from typing import Callable, Dict, Iterator, List, Optional, Set, Tuple
 from ..words import grouped, shown_name
 from .files import SIGNED, Folder, Lying, Reader, Unread, look
 from .findings import Finding, find
-from .keys import Judges
+from .keys import FIRST, Judges
 from .lines import Row
 from .logs import Logs
 from .options import TURNS, Options, utc
 from .record import File, Record, digest
+from .stamps import Checker, Cover, Stamps, link_in
 from .verdicts import Judged, Work
-from .walk_chain import Node, Others, Walk, Walked
+from .walk_chain import Node, Others, Walk, Walked, rank
 
 
 @dataclass
@@ -36,6 +37,10 @@ class Counts:
     files: int = 0
     newest: Optional[Node] = None
     removed: int = 0
+    cover: Optional[Cover] = None
+    """How far time stamps go; None where none holds."""
+    unchecked: int = 0
+    """How many time stamps no authority was given for."""
 
 
 @dataclass
@@ -63,8 +68,9 @@ class Originator:
 
     # ---- reading
 
-    def read(self, reader: Reader, judges: Judges) -> Iterator[Work]:
+    def read(self, reader: Reader, judges: Judges, checker: Optional[Checker]) -> Iterator[Work]:
         """Looks into the folder. Gives what is to be verified."""
+        self._stamps = Stamps(self.name, self.record, checker)
         try:
             self._folder = look(self.folder, self.options.match)
         except OSError as fault:
@@ -73,7 +79,6 @@ class Originator:
             self.found.append(find("gone", "gone", what, self.name))
             return
         names: Dict[str, str] = {}
-        wanted: Set[str] = set()
         for it in self._folder.signed:
             name = it.bare if names.setdefault(it.bare, it.name) == it.name else it.name
             sha256 = self._read_one(name, it, reader)
@@ -82,9 +87,20 @@ class Originator:
             here = Here(name, it, sha256, self.record.files.get(sha256))
             self._here.append(here)
             self._by_sha256.setdefault(sha256, []).append(here)
-            if self._has_to_be_verified(here, judges) and sha256 not in wanted:
-                wanted.add(sha256)
-                yield Work(self.name, it.name, it.path, sha256, self.now if here.file is None else here.file.seen)
+        self._stamps.read(self._folder.stamps, self._here, lambda it: self.is_doubted or self._is_due(it))
+        if judges.has_times and self._stamps.are_any:
+            self._stamps.cover(lambda it: self._before(it) or self._stated_before(it, reader))
+        for same in self._by_sha256.values():
+            if self._has_to_be_verified(same[0], judges):
+                yield self._work(same[0])
+
+    def _work(self, here: Here) -> Work:
+        """A file that is to be verified, with the time at which it is known to have existed."""
+        it, seen = here.lying, self.now if here.file is None else here.file.seen
+        stamped = self._stamps.time_of(here.sha256, seen)
+        if stamped is None:
+            return Work(self.name, it.name, it.path, here.sha256, seen, FIRST)
+        return Work(self.name, it.name, it.path, here.sha256, stamped, self._stamps.how(here.sha256))
 
     def _is_due(self, sha256: str) -> bool:
         """Whether a file is read again in this run, though nothing shows that it changed: each is within so many runs."""
@@ -111,6 +127,8 @@ class Originator:
         file = here.file
         if file is None or self.is_doubted:
             return True
+        if judges.has_times and file.stamped != self._stamps.time_of(file.sha256, file.seen):
+            return True
         if file.of == judges.of:
             return False
         return not judges.holds(file) or self._is_due(file.sha256)
@@ -125,8 +143,9 @@ class Originator:
                 it.fault = fault
             return None
         before = self.record.files.get(work.sha256)
-        row = {"kind": "file", "name": same[0].lying.bare, **judged.fields, "of": list(judges.of),
-               "seen": self.now if before is None else before.seen}
+        seen = self.now if before is None else before.seen
+        row = {"kind": "file", "name": same[0].lying.bare, **judged.fields, "of": list(judges.of), "seen": seen,
+               "stamped": self._stamps.time_of(work.sha256, seen) if judges.has_times else None}
         self.record.put(row)
         for it in same:
             it.file = self.record.files[work.sha256]
@@ -153,6 +172,7 @@ class Originator:
         self.counts.removed, self.counts.newest = self._walked.removed, self._walked.newest
         self._find_quiet(chain)
         self._check_logs(self._folder, chain, reader)
+        self._check_stamps(chain)
 
     def _sort(self) -> Tuple[List[Node], Others]:
         """The files of the chain, here or not, and the others that are here. Each of these has a finding."""
@@ -241,6 +261,32 @@ class Originator:
         logs.check(folder, self._walked.absent, self.options.late)
         logs.check_asides([(shown_name(it.name), link) for it, link in links if it.is_here], folder)
         self.found += logs.found
+
+    def _check_stamps(self, chain: List[Node]) -> None:
+        """Finds which files time stamps cover, by verified links, and stamps that don't hold."""
+        self._stamps.cover(self._before)
+        here = sorted((it for it in chain if it.is_here), key=rank)
+        judged = sum(self.record.files[it.sha256].stamped is not None for it in here)
+        self.counts.cover = self._stamps.summary([(it.name, it.sha256) for it in here], judged)
+        self.counts.unchecked = self._stamps.unchecked
+        self.found += self._stamps.find(self.found, self._walked.absent, self._has_to_be_stamped)
+
+    def _before(self, sha256: str) -> Optional[str]:
+        """The SHA-256 of the file before, by a verified link."""
+        link = self.record.files[sha256].link if sha256 in self.record.files else None
+        return link.before.sha256 if link is not None and link.before is not None else None
+
+    def _stated_before(self, sha256: str, reader: Reader) -> Optional[str]:
+        """The same of a file that isn't verified yet, by its first message."""
+        here = self._by_sha256.get(sha256)
+        link = link_in(here[0].lying, reader.workplace) if here else None
+        return link.before.sha256 if link is not None and link.before is not None else None
+
+    def _has_to_be_stamped(self, sha256: str) -> bool:
+        """Whether the stamp of a file, which was seen once, has to be here: the file is, and isn't so old that it may go."""
+        file = self.record.files.get(sha256)
+        is_old = file is not None and self.options.keep is not None and file.seen < self.now - self.options.keep
+        return sha256 in self._by_sha256 and not is_old and not self.is_doubted
 
     # ---- keeping
 

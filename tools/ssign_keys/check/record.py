@@ -33,6 +33,13 @@ class File(NamedTuple):
     """What the verdict was made with: the digests of what is trusted, of the rules, and of the programs."""
     seen: int
     """When its octets were seen first."""
+    stamped: Optional[int]
+    """The time of the time stamp by which it was judged; None where that was `seen`."""
+
+    @property
+    def judged(self) -> int:
+        """The time by which its key was judged."""
+        return self.seen if self.stamped is None else self.stamped
 
     @property
     def is_right(self) -> bool:
@@ -50,7 +57,8 @@ def file_of(row: Row) -> File:
     session, of = row["session"], row["of"]
     names = (str(session[0]), str(session[1]), str(session[2]), int(session[3])) if session else None
     return File(row["sha256"], row["name"], row["status"], row["said"], names, row["key"],
-                read_link(row["link"]) if row["link"] else None, (str(of[0]), str(of[1]), str(of[2])), row["seen"])
+                read_link(row["link"]) if row["link"] else None, (str(of[0]), str(of[1]), str(of[2])), row["seen"],
+                row.get("stamped"))
 
 
 class Held:
@@ -82,6 +90,10 @@ class Record:
         """The number of each SHA-256, in the order in which they were seen."""
         self.reads: Dict[str, Tuple[Stat, str]] = {}
         self.logs: Dict[str, Row] = {}
+        self.stamps: Dict[str, Row] = {}
+        """Each time stamp that held, by its name."""
+        self.earliest: Dict[str, Row] = {}
+        """The earliest time stamp that was seen of each file, by the SHA-256 of that."""
         self.held: Set[str] = set()
         """The SHA-256 of each file that has to be there from now on."""
         self.accepted = Held()
@@ -102,6 +114,10 @@ class Record:
             self.reads[row["name"]] = tuple(row["stat"]), row["sha256"]
         elif kind == "log":
             self.logs[row["name"]] = row
+        elif kind == "stamp":
+            self.stamps[row["name"]] = row
+            if row["sha256"] not in self.earliest or row["latest"] <= self.earliest[row["sha256"]]["latest"]:
+                self.earliest[row["sha256"]] = row
         elif kind == "held":
             self.held.update(map(str, row["files"]))
         elif kind in ("accept", "lapse"):

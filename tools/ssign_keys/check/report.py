@@ -11,6 +11,7 @@ from .findings import KINDS, Finding, in_order
 from .options import utc
 from .originator import Originator
 from .record import Held
+from .stamps import Cover
 
 
 @dataclass
@@ -22,8 +23,12 @@ class Report:
     whys: Dict[str, str] = field(default_factory=dict)
     """Why each accepted finding is accepted, with its day."""
     originators: List[Dict[str, Any]] = field(default_factory=list)
+    covers: Dict[str, Cover] = field(default_factory=dict)
+    """How far time stamps go, by the names of originators."""
     files: int = 0
     removed: int = 0
+    unchecked: int = 0
+    """How many time stamps no authority was given for."""
 
     def add(self, found: List[Finding], held: Held) -> None:
         """Sorts findings by what was accepted."""
@@ -43,6 +48,10 @@ class Report:
         accepted = sum(map(look, it.found))
         self.originators.append({"name": shown_name(it.name), "files": it.counts.files, "newest": fields,
                                  "findings": len(it.found) - accepted, "accepted": accepted})
+        self.unchecked += it.counts.unchecked
+        if it.counts.cover is not None:
+            self.covers[shown_name(it.name)] = it.counts.cover
+            self.originators[-1]["stamped"] = it.counts.cover.fields()
 
     @property
     def status(self) -> int:
@@ -54,12 +63,14 @@ class Report:
         said = f"{grouped(self.files, 'file')} of {grouped(len(self.originators), 'originator')}: "
         said += grouped(len(self.open), "finding") if self.open else "clean"
         said += f", {self.removed:,} removed after their time" if self.removed else ""
+        said += f", {grouped(self.unchecked, 'time stamp')} not checked without --tsa-ca" if self.unchecked else ""
         return said + (f", {counted(len(self.accepted), 'accepted finding')}" if self.accepted else "")
 
     def text(self, shows_head: bool) -> str:
         """For a person."""
         lines = [f"{it.name}: {it.text}. To do: {KINDS[it.kind].act}" for it in in_order(self.open)]
         lines += [f"accepted: {it.name}: {it.text} (accepted {self.whys[it.name]})" for it in in_order(self.accepted)]
+        lines += [f"stamp: {name}: {it.sentence()}" for name, it in self.covers.items()]
         if shows_head:
             lines += [f"newest: {it['name']}: {it['newest']['name']}, SHA-256 {it['newest']['sha256']}"
                       for it in self.originators if it["newest"] is not None]

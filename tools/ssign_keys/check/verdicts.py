@@ -41,7 +41,9 @@ class Work(NamedTuple):
     sha256: str
     """Of its octets, as they were read before."""
     seen: int
-    """When these were seen first."""
+    """When these existed, as far as is known."""
+    how: str
+    """What shows that."""
 
 
 class Judged(NamedTuple):
@@ -87,15 +89,15 @@ def link_in(message: bytes, session: Session) -> Optional[str]:
     return text if found is not None and found.rsid == int(session.rsid) else None
 
 
-def judge(judges: Judges, path: str, seen: int) -> Dict[str, Any]:
+def judge(judges: Judges, work: Work) -> Dict[str, Any]:
     """The verdict on a file, and what its chain message says. Raises Fault where the file can't be read."""
-    progress, arguments = Progress(), argparse.Namespace(**{**vars(judges.arguments), "logs": [path]})
+    progress, arguments = Progress(), argparse.Namespace(**{**vars(judges.arguments), "logs": [work.path]})
     with Workplace() as workplace:
-        log = open_log([path], False, workplace, progress, arguments.max_expanded)
+        log = open_log([work.path], False, workplace, progress, arguments.max_expanded)
         log.longest = longest(arguments)
         verifier = Verifier(judges.program, arguments, Missing([], None), log, None, workplace, progress, True)
         try:
-            reviewed = verifier.review(judges.trust_at(seen), NONE)
+            reviewed = verifier.review(judges.trust_at(work.seen, work.how), NONE)
         except Refused as refused:
             said = str(fault_of(refused, judges.program, arguments, log) or "it is refused")
             return {"sha256": log.sums()[0][1], "status": 2, "said": said, "session": None, "key": None, "link": None}
@@ -162,7 +164,7 @@ class Pool:
             # what commands may take is for each file
             BUDGET.renew()
             try:
-                fields = judge(self._judges, work.path, work.seen)
+                fields = judge(self._judges, work)
             except (Fault, OSError) as fault:
                 fields = {"unread": str(fault)}
             with open(out_path, "wb") as file:
