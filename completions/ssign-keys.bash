@@ -27,7 +27,6 @@ _ssign_keys() {
         return
     fi
     if ((COMP_CWORD == 1)); then
-        _ssign_keys_offer words 'make sign live verify check manifest stamp seal answer explain help --help --version'
         return
     fi
     ((COMP_CWORD > 3)) && second=${COMP_WORDS[COMP_CWORD - 2]}
@@ -143,6 +142,7 @@ _ssign_keys() {
     'check --match') _ssign_keys_offer text ;;
     'check --jobs') _ssign_keys_offer text ;;
     'check --ssign') _ssign_keys_offer files ;;
+    'alarm --older') _ssign_keys_offer text ;;
     'manifest --set-aside') _ssign_keys_offer files ;;
     'manifest --left-out') ;;
     'manifest --signed') _ssign_keys_offer text ;;
@@ -211,6 +211,13 @@ _ssign_keys_words() {
             _ssign_keys_offer folders
         fi
         ;;
+    alarm)
+        if [[ $2 == -* ]]; then
+            _ssign_keys_offer words '--help --older'
+        else
+            _ssign_keys_offer text
+        fi
+        ;;
     manifest)
         if [[ $2 == -* ]]; then
             _ssign_keys_offer words '--help --set-aside --left-out --signed --last --logs --to --sizes --seen --lines --frames --max-len --max-messages --counters --json --ssign'
@@ -246,7 +253,6 @@ _ssign_keys_words() {
             _ssign_keys_offer codes
         fi
         ;;
-    help) _ssign_keys_offer words 'make sign live verify check manifest stamp seal answer explain' ;;
     esac
 }
 

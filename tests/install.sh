@@ -80,12 +80,16 @@ wanted=(bin/ssign bin/ssign-keys share/suhvatek/ssign-keys share/suhvatek/ssign_
     share/doc/suhvatek/examples/signed/signed.frames share/doc/suhvatek/examples/systemd/ssign-sign.service
     share/doc/suhvatek/examples/rsyslog/ssign-live.conf
     share/doc/suhvatek/examples/syslog-ng/ssign-live.conf share/doc/suhvatek/examples/systemd/ssign-live.service share/doc/suhvatek/examples/lost-block.counters
-    share/doc/suhvatek/examples/producers/rsyslog.log)
+    share/doc/suhvatek/examples/producers/rsyslog.log
+    lib/systemd/system/ssign-{check,alarm,stamp}@.{service,timer})
 for file in "${wanted[@]}"; do
     holds "$file is installed" test -s "$usr/$file"
 done
 for file in "$root"/tools/ssign_{keys,keys/chain,keys/check,archive}/*.py; do
     holds "${file#"$root"/tools/} is installed" cmp "$file" "$usr/share/suhvatek/${file#"$root"/tools/}"
+done
+for unit in check alarm stamp; do
+    holds "ssign-$unit@.service starts what is installed" test "$(grep -c '^ExecStart=/usr/local/bin/ssign-keys ' "$usr/lib/systemd/system/ssign-$unit@.service")" = 1
 done
 for file in "$root"/man/*.[15]; do
     holds "${file##*/} is installed" cmp "$file" "$usr/share/man/man${file##*.}/${file##*/}"

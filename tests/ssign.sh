@@ -844,7 +844,7 @@ while read -r word; do
     ssign "$tools" "$word" --key x </dev/null
     expect "./ssign $word" 2 '' "ssign: $word is a command of ssign-keys: tools/ssign-keys $word"
 done < <("$root/tools/ssign-keys" --help </dev/null | sed -nE 's/^    ([a-z]+) .*/\1/p')
-holds 'some commands are of ssign-keys alone' test "$theirs" = 8
+holds 'some commands are of ssign-keys alone' test "$theirs" = 9
 
 # A limit of file sizes is a failed write and no signal: 1024 octets come, and then W1
 seq 1 500 >"$scratch/many"

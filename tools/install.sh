@@ -101,6 +101,7 @@ list_files() {
     put_all "$documents/examples/producers" "$root"/examples/producers/*
     put_all "$documents/examples/signed" "$root"/examples/signed/*
     put_all "$documents/examples/systemd" "$root"/examples/systemd/*
+    put_all lib/systemd/system "$root"/examples/systemd/ssign-{check,alarm,stamp}@.{service,timer}
     put_all "$documents/examples/container" "$root"/examples/container/*
     put_all "$documents/examples/rsyslog" "$root"/examples/rsyslog/*
     put_all "$documents/examples/syslog-ng" "$root"/examples/syslog-ng/*
@@ -120,6 +121,7 @@ make_folder() {
 
 # copy MODE SOURCE FILE: what is installed of a source. Its mode is set later, with those of the others.
 copy() {
+    local text
     if [[ $1 == link ]]; then
         ln -s -- "$2" "$3"
         return
@@ -128,6 +130,10 @@ copy() {
     if [[ $2 == */tools/@(ssign-keys|archive) ]]; then
         # nothing is written beside an installed package, so the interpreter keeps no compiled files there
         { printf '#!%s -B\n' "$python" && tail -n +2 -- "$2"; } >"$3"
+    elif [[ $3 == */lib/systemd/system/*.service* ]]; then
+        # a unit that is installed starts the program that is installed
+        text=$(<"$2") || return
+        printf '%s\n' "${text//=\/usr\/bin\//"=${prefix// /\\x20}/bin/"}" >"$3"
     else
         cat -- "$2" >"$3"
     fi

@@ -15,6 +15,7 @@ TOOL = usage.Tool(
         "live": "sign messages as they come, for ever, and go on after any stop",
         "verify": "say what a signed log proves, with the originator's public key",
         "check": "check all signed files of originators, and whether what was seen is still there",
+        "alarm": "fail if the last clean check is too old, by its status file",
         "manifest": "keep a list of signed logs, and check logs against it",
         "stamp": "have a time stamp service sign when a file existed, such as the newest signed one",
         "seal": "sign what `ssign plan` wants to have signed",
@@ -34,6 +35,7 @@ TOOL = usage.Tool(
         ),
         "verify": ("ssign-keys verify --key keys/public-key.pem signed.frames",),
         "check": ("ssign-keys check /srv/logs --trust /etc/ssign/trust --memory /var/lib/ssign-check --expect 26h",),
+        "alarm": ("ssign-keys alarm /var/lib/ssign-check/srv-logs.json --older 2d",),
         "manifest": (
             "ssign-keys manifest add manifest signed.frames --counters counters",
             "ssign-keys manifest check manifest /srv/logs --logs '*.frames'",
