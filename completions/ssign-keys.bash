@@ -140,6 +140,7 @@ _ssign_keys() {
     'check --tsa-ca-anchor') _ssign_keys_offer files ;;
     'check --max-expanded') _ssign_keys_offer text ;;
     'check --match') _ssign_keys_offer text ;;
+    'check --html') _ssign_keys_offer files ;;
     'check --jobs') _ssign_keys_offer text ;;
     'check --ssign') _ssign_keys_offer files ;;
     'alarm --older') _ssign_keys_offer text ;;
@@ -206,7 +207,7 @@ _ssign_keys_words() {
         ;;
     check)
         if [[ $2 == -* ]]; then
-            _ssign_keys_offer words '--help --memory --accept --why --expect --keep --read --status --head --key --ca --trust --allow-sha1 --tsa-ca --tsa-ca-anchor --max-expanded --match --begin --json --jobs --ssign'
+            _ssign_keys_offer words '--help --memory --accept --why --expect --keep --read --status --head --key --ca --trust --allow-sha1 --tsa-ca --tsa-ca-anchor --max-expanded --match --begin --json --html --jobs --ssign'
         else
             _ssign_keys_offer folders
         fi

@@ -156,6 +156,7 @@ complete -c ssign-keys -n '__ssign_keys_command check' -l max-expanded -x -d 're
 complete -c ssign-keys -n '__ssign_keys_command check' -l match -x -d 'which other files are logs that have to be signed, by their names (default'
 complete -c ssign-keys -n '__ssign_keys_command check' -l begin -d 'begin the memory'
 complete -c ssign-keys -n '__ssign_keys_command check' -l json -d 'print an object of JSON for each finding, each originator and the verdict'
+complete -c ssign-keys -n '__ssign_keys_command check' -l html -r -F -d 'also write a page for people to FILE, with a grid of the files by day'
 complete -c ssign-keys -n '__ssign_keys_command check' -l jobs -x -d 'verify so many files at once (default'
 complete -c ssign-keys -n '__ssign_keys_command check' -l ssign -r -F -d 'the program ssign (default'
 complete -c ssign-keys -n '__ssign_keys_command check' -a '(__fish_complete_directories)'

@@ -7,9 +7,10 @@ from typing import Dict, List, Optional, Set, Tuple
 
 from ..faults import Fault
 from ..output import write_out
+from ..page_file import PageFile
 from ..progress import Progress
 from ..words import shown_name
-from ..workplace import Workplace
+from ..workplace import Workplace, finish
 from . import options as check_options
 from .accept import accept, is_held, lapses
 from .files import Reader, find_folders
@@ -18,6 +19,7 @@ from .keys import Judges, make_judges
 from .memory import Memory, file_place, now
 from .options import Options, read_options
 from .originator import Originator
+from .page import FRONT, make_page
 from .record import digest
 from .report import Report
 from .stamps import Checker, make_checker
@@ -40,18 +42,32 @@ def run(arguments: argparse.Namespace) -> int:
     folders = find_folders(options.folders)
     progress = Progress()
     try:
-        with Workplace() as workplace:
+        with PageFile(options.html, FRONT.encode("ascii")) as page, Workplace() as workplace:
+            page.check(inputs(options))
             refuse_places(folders, options)
             checker = make_checker(options.tsa_ca, options.tsa_ca_anchor, workplace)
             memory = Memory(options.memory, options.is_begun)
             refuse_unknown(folders, memory)
             report = Check(options, judges, memory, workplace, progress).run(folders, checker)
-        progress.clear()
-        text = report.json() if options.is_json else report.text(options.shows_head)
-        write_out([text.encode("utf-8", "backslashreplace")])
+            progress.clear()
+            if options.html is not None:
+                with workplace.new_file("page") as file:
+                    make_page(file, report, now())
+                    finish(file)
+                page.prepare(workplace.path("page"))
+            text = report.json() if options.is_json else report.text(options.shows_head)
+            write_out([text.encode("utf-8", "backslashreplace")])
+            page.name()
         return report.status
     finally:
         progress.clear()
+
+
+def inputs(options: Options) -> List[str]:
+    """The files over which no page is written."""
+    keys = options.keys
+    named = [*keys.keys, *keys.cas, keys.trust, options.status, *options.tsa_ca, *options.tsa_ca_anchor]
+    return [it for it in named if it is not None]
 
 
 def refuse_places(folders: Dict[str, str], options: Options) -> None:

@@ -45,6 +45,8 @@ class Options:
     is_json: bool
     tsa_ca: Tuple[str, ...]
     tsa_ca_anchor: Tuple[str, ...]
+    html: Optional[str]
+    """Where the page is wanted."""
 
     @property
     def late(self) -> int:
@@ -83,6 +85,8 @@ def add_arguments(parser: argparse.ArgumentParser) -> None:
     parser.add_argument("--head", action="store_true", help="also print the newest file of each originator, with its SHA-256")
     parser.add_argument("--json", action="store_true", help="print an object of JSON for each finding, each originator and "
                         "the verdict")
+    parser.add_argument("--html", metavar="FILE", help="also write a page for people to FILE, with a grid of the files by day; "
+                        "an older page there is replaced")
     stamped.add_authorities(parser)
     add_program_argument(parser)
     parser.add_argument("folders", nargs="+", metavar="DIR", help="the folder of an originator, by whose name it is known; or "
@@ -99,7 +103,8 @@ def read_options(arguments: argparse.Namespace) -> Options:
     return Options(tuple(arguments.folders), keys, find_program(arguments), arguments.memory, arguments.begin,
                    tuple(arguments.accept), arguments.why or "", arguments.expect, arguments.keep,
                    tuple(arguments.match or MATCH), arguments.read == "all", arguments.jobs, arguments.status,
-                   arguments.head, arguments.json, tuple(arguments.tsa_ca), tuple(arguments.tsa_ca_anchor))
+                   arguments.head, arguments.json, tuple(arguments.tsa_ca), tuple(arguments.tsa_ca_anchor),
+                   arguments.html)
 
 
 def utc(seconds: int) -> str:

@@ -2,7 +2,7 @@
 from __future__ import annotations
 
 from dataclasses import dataclass, field
-from typing import Callable, Dict, Iterator, List, Optional, Set, Tuple
+from typing import Callable, Dict, Iterator, List, NamedTuple, Optional, Set, Tuple
 
 from ..words import grouped, shown_name
 from .files import SIGNED, Folder, Lying, Reader, Unread, look
@@ -28,6 +28,19 @@ class Here:
     file: Optional[File] = None
     """None as long as it isn't verified, or where that can't be done."""
     fault: str = ""
+
+
+class Night(NamedTuple):
+    """A file as a picture shows it."""
+
+    name: str
+    when: int
+    """Its RSID, or when a check saw it first where that isn't known; in seconds since 1970."""
+    place: str
+    """The file that a finding about it names."""
+    is_here: bool
+    is_kept: bool
+    """False where it isn't here because it is old."""
 
 
 @dataclass
@@ -308,6 +321,19 @@ class Originator:
         place = f"{shown_name(self.name)}/{shown_name(it.name)}"
         is_accepted = f"{place} damaged" in accepted or f"{place} unlinked" in accepted
         return it.sha256 not in self.record.held and (is_right or is_accepted)
+
+    def nights(self) -> Iterator[Night]:
+        """Each file that is here or should be, for a picture."""
+        for it in self._here:
+            when = it.file.rsid or it.file.seen if it.file is not None else self.now
+            yield Night(it.name, when, it.name, True, True)
+        for name in sorted(self._unread):
+            yield Night(name, self.now, name, True, True)
+        names = {it.name for it in self._here} | self._unread
+        for node in self._walked.away if self._walk is not None else []:
+            # what lies in its place is shown
+            if node.name not in names:
+                yield Night(node.name, node.rsid, self._walked.tops.get(node.sha256, node.name), False, node.is_kept)
 
     def files(self) -> Iterator[Tuple[str, str]]:
         """The name and the SHA-256 of each clean file that is here, but for those of chains about which there is a finding."""

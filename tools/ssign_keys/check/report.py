@@ -29,6 +29,8 @@ class Report:
     removed: int = 0
     unchecked: int = 0
     """How many time stamps no authority was given for."""
+    checked: List[Originator] = field(default_factory=list)
+    """The originators whose folders were looked at."""
 
     def add(self, found: List[Finding], held: Held) -> None:
         """Sorts findings by what was accepted."""
@@ -49,6 +51,7 @@ class Report:
         self.originators.append({"name": shown_name(it.name), "files": it.counts.files, "newest": fields,
                                  "findings": len(it.found) - accepted, "accepted": accepted})
         self.unchecked += it.counts.unchecked
+        self.checked.append(it)
         if it.counts.cover is not None:
             self.covers[shown_name(it.name)] = it.counts.cover
             self.originators[-1]["stamped"] = it.counts.cover.fields()

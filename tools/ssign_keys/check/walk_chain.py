@@ -66,6 +66,10 @@ class Walked:
     """How many files aren't here because they are old."""
     absent: Set[str] = field(default_factory=set)
     """The names of files that aren't here."""
+    away: List[Node] = field(default_factory=list)
+    """These files."""
+    tops: Dict[str, str] = field(default_factory=dict)
+    """For the SHA-256 of each of them that a finding is about, the name of the file that this one names."""
 
 
 class Piece(NamedTuple):
@@ -103,7 +107,8 @@ class Walk:
         for it in self._nodes.values():
             if it.before is not None:
                 self._followers.setdefault(it.before, []).append(it)
-        self._walked.absent = {it.name for it in self._nodes.values() if not it.is_here}
+        self._walked.away = [it for it in self._nodes.values() if not it.is_here]
+        self._walked.absent = {it.name for it in self._walked.away}
         self._walked.removed = sum(not it.is_here and not it.is_kept for it in self._nodes.values())
         self._by_name = {it.name: it for it in self._nodes.values() if it.is_here}
         self._compare_names()
@@ -195,6 +200,7 @@ class Walk:
 
     def _find_stretch(self, top: Node, followers: List[Node], stretch: List[Node]) -> None:
         """The finding about such files."""
+        self._walked.tops.update((it.sha256, top.name) for it in stretch)
         names = [it.name for it in reversed(stretch)]
         more = "" if len(names) == 1 else f"; {len(names)} files aren't there: {few(names)}"
         fact = digest([it.sha256 for it in stretch])

@@ -1,0 +1,9 @@
+#!/usr/bin/env bash
+# `ssign-keys check --html`: the page of a check, read by a parser and by tidy, with hostile names, and over 1,000 files:
+# tests/check_page.py.
+# shellcheck source=tests/lib.sh
+. "$(dirname -- "$0")/lib.sh"
+need_program
+python3 -c 'import cryptography' 2>/dev/null || leave_out 'the Python package cryptography is missing'
+
+SSIGN=$program python3 -B "$root/tests/check_page.py"
