@@ -24,7 +24,7 @@ STATES: Dict[str, Tuple[int, str, str, str]] = {
     "clean": (1, "✓", "good", "clean"), "removed": (0, "–", "dim", "removed after its time"),
 }
 STYLE = """.grid{overflow-x:auto}.grid td{min-width:1.6rem;padding:.1rem .2rem;text-align:center}
-.grid th{padding:.1rem .2rem}.grid tbody th{min-width:6rem}.grid td span{display:block;border-radius:.2rem}
+.grid th{padding:.1rem .2rem;text-align:center}.grid tr>:first-child{text-align:left;min-width:6rem}.grid td span{display:block;border-radius:.2rem}
 """
 
 
@@ -183,7 +183,7 @@ def originators_part(report: Report) -> Markup:
         newest, cover = it["newest"], report.covers.get(it["name"])
         rows.append((named(it["name"]), f"{it['files']:,}", named(newest["name"]) if newest else "none",
                      code(newest["sha256"]) if newest else "", newest["seen"] if newest else "",
-                     named(cover.sentence()) if cover else "none holds"))
+                     named(cover.sentence()) if cover else "none"))
     heads = ("Originator", "Files", "Newest file", "Its SHA-256", "Seen first", "Time stamps")
     return plain("section", plain("h2", "Originators"), *cut_rows("originators", "The folders that were checked", heads, rows))
 
