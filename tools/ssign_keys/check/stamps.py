@@ -192,16 +192,16 @@ class Stamps:
     # ---- what is found
 
     def find(self, others: Iterable[Finding], absent: Set[str], is_wanted: Callable[[str], bool]) -> List[Finding]:
-        """The findings. About a stamp of a file of which another finding tells there is none.
+        """The findings. The stamp of a file that has another finding has none.
 
-        `absent` has the names of files that are known and aren't here. `is_wanted` says of the SHA-256 of a file whether it is
-        here and its stamp has to be.
+        `absent` has the names of files that are known and aren't here. `is_wanted` answers for the SHA-256 of a file: whether it
+        is here, and its stamp has to be.
         """
         if self._checker is None:
             return []
-        told = {it.place for it in others}
+        places = {it.place for it in others}
         found = [self._find(name, fact, why) for name, (file, fact, why) in self._faults.items()
-                 if find("stamp", "", "", self._originator, file).place not in told]
+                 if find("stamp", "", "", self._originator, file).place not in places]
         found += [self._find(name, "lone", f"it is the time stamp of {shown_name(file)}, which isn't there")
                   for name, file in self._lone.items() if file not in absent]
         times = {it["sha256"]: it["latest"] for it in sorted(self._held, key=lambda it: -int(it["latest"]))}
