@@ -142,6 +142,7 @@ _ssign_keys() {
     'check --match') _ssign_keys_offer text ;;
     'check --html') _ssign_keys_offer files ;;
     'check --jobs') _ssign_keys_offer text ;;
+    'check --part') _ssign_keys_offer text ;;
     'check --ssign') _ssign_keys_offer files ;;
     'alarm --older') _ssign_keys_offer text ;;
     'manifest --set-aside') _ssign_keys_offer files ;;
@@ -207,7 +208,7 @@ _ssign_keys_words() {
         ;;
     check)
         if [[ $2 == -* ]]; then
-            _ssign_keys_offer words '--help --memory --accept --why --expect --keep --read --status --head --key --ca --trust --allow-sha1 --tsa-ca --tsa-ca-anchor --max-expanded --match --begin --json --html --jobs --ssign'
+            _ssign_keys_offer words '--help --memory --accept --why --expect --keep --read --status --head --key --ca --trust --allow-sha1 --max-expanded --match --begin --json --jobs --part --ssign'
         else
             _ssign_keys_offer folders
         fi

@@ -158,6 +158,7 @@ complete -c ssign-keys -n '__ssign_keys_command check' -l begin -d 'begin the me
 complete -c ssign-keys -n '__ssign_keys_command check' -l json -d 'print an object of JSON for each finding, each originator and the verdict'
 complete -c ssign-keys -n '__ssign_keys_command check' -l html -r -F -d 'also write a page for people to FILE, with a grid of the files by day'
 complete -c ssign-keys -n '__ssign_keys_command check' -l jobs -x -d 'verify so many files at once (default'
+complete -c ssign-keys -n '__ssign_keys_command check' -l part -x -d 'only verify the K-th of N shares of the files that need it, and leave what came of it in the memory for the next check'
 complete -c ssign-keys -n '__ssign_keys_command check' -l ssign -r -F -d 'the program ssign (default'
 complete -c ssign-keys -n '__ssign_keys_command check' -a '(__fish_complete_directories)'
 complete -c ssign-keys -n __ssign_keys_command -a alarm -d 'Fail if the last clean check is too old, by its status file'

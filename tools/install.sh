@@ -102,6 +102,7 @@ list_files() {
     put_all "$documents/examples/signed" "$root"/examples/signed/*
     put_all "$documents/examples/systemd" "$root"/examples/systemd/*
     put_all lib/systemd/system "$root"/examples/systemd/ssign-{check,alarm,stamp}@.{service,timer}
+    put_all "$documents/examples/logrotate" "$root"/examples/logrotate/*
     put_all "$documents/examples/container" "$root"/examples/container/*
     put_all "$documents/examples/rsyslog" "$root"/examples/rsyslog/*
     put_all "$documents/examples/syslog-ng" "$root"/examples/syslog-ng/*

@@ -9,7 +9,7 @@ from typing import Dict, List, Optional, Sequence, Tuple
 
 from ssign_keys.explanations import UNPRINTED, read_explanations
 
-OPTION = re.compile(r" +(?:(-\w), )?(--[a-z][a-z0-9-]*)((?: [<{]?[\w.,:]+[>}]?)*)(?:  +(\S.*))?")
+OPTION = re.compile(r" +(?:(-\w), )?(--[a-z][a-z0-9-]*)((?: [<{]?[\w.,:/]+[>}]?)*)(?:  +(\S.*))?")
 NAMED = re.compile(r" +(\S+)(?:  +(\S.*))?")
 HEADING = re.compile(r"[A-Za-z][a-z ]*:")
 POSSIBLE = re.compile(r"\[possible values: ([^]]+)\]")

@@ -37,7 +37,7 @@ GROUPS: Dict[str, Tuple[str, ...]] = {
     "what is reported": ("--whole", "--from", "--counters", "--nights", "--manifest", "--from-manifest", "--manifest-last",
                          "--stamped", "--findings", "--details", "--hostname", "--raw", "--json", "--html", "--answers-out",
                          "--counters-out"),
-    "the run": ("--jobs", "--ssign"),
+    "the run": ("--jobs", "--part", "--ssign"),
 }
 
 

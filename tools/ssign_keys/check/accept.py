@@ -1,7 +1,7 @@
 """Accepted findings: a name and the fact that was seen. They hold as long as the same is seen, and lapse when it is gone."""
 from __future__ import annotations
 
-from typing import Callable, Dict, Iterable, List, Sequence
+from typing import Callable, Dict, Iterable, List, Sequence, Set
 
 from ..faults import Fault
 from ..words import shown_text
@@ -42,6 +42,12 @@ def is_held(held: Held) -> Callable[[Finding], bool]:
         row = held.rows.get(finding.name)
         return row is not None and row["fact"] == finding.fact
     return look
+
+
+def doubted_in(memory: Memory, found: Iterable[Finding]) -> Set[str]:
+    """The places of files of the memory that were edited, unless that is accepted."""
+    look = is_held(memory.accepted)
+    return {it.place for it in found if it.kind == "edited" and not look(it)}
 
 
 def lapses(held: Held, found: Iterable[Finding]) -> List[Row]:

@@ -3,7 +3,7 @@ from __future__ import annotations
 
 import argparse
 import os
-from typing import Dict, List, Optional, Set, Tuple
+from typing import Dict, List, Optional, Tuple
 
 from ..faults import Fault
 from ..output import write_out
@@ -12,7 +12,7 @@ from ..progress import Progress
 from ..words import shown_name
 from ..workplace import Workplace, finish
 from . import options as check_options
-from .accept import accept, is_held, lapses
+from .accept import accept, doubted_in, is_held, lapses
 from .files import Reader, find_folders
 from .findings import Finding, few, find
 from .keys import Judges, make_judges
@@ -24,10 +24,10 @@ from .record import digest
 from .report import Report
 from .stamps import Checker, make_checker
 from .status import read_status, write_status
-from .verdicts import Pool, Work
-
-# so many verdicts are made at most before they stand on the disk: a first check of years may be stopped
-MOST_UNSAVED = 50
+from .taken import Taken
+from .task import Reading, run_task
+from .verdicts import Pool
+from .verifying import refuse_unknown, verify
 
 
 def add_arguments(parser: argparse.ArgumentParser) -> None:
@@ -46,6 +46,11 @@ def run(arguments: argparse.Namespace) -> int:
             page.check(inputs(options))
             refuse_places(folders, options)
             checker = make_checker(options.tsa_ca, options.tsa_ca_anchor, workplace)
+            if options.part is not None:
+                said = run_task(options, judges, folders, Reading(workplace, progress, checker))
+                progress.clear()
+                write_out([f"{said}\n".encode("ascii")])
+                return 0
             memory = Memory(options.memory, options.is_begun)
             refuse_unknown(folders, memory)
             report = Check(options, judges, memory, workplace, progress).run(folders, checker)
@@ -78,14 +83,6 @@ def refuse_places(folders: Dict[str, str], options: Options) -> None:
         raise Fault(f"the status file {shown_name(options.status)} can't be written: there is no such folder")
 
 
-def refuse_unknown(folders: Dict[str, str], memory: Memory) -> None:
-    """Refuses a folder that isn't there, and of which no check knows."""
-    known = set(memory.recorded())
-    for name, path in folders.items():
-        if name not in known and not os.path.isdir(path):
-            raise Fault(f"there is no folder {shown_name(path)}: name that of an originator, or one that holds such folders")
-
-
 class Check:
     """A check, from what is read to what is kept."""
 
@@ -101,40 +98,27 @@ class Check:
         """All of it. What was found stands in the memory afterwards, and in the status file."""
         memory, options = self._memory, self._options
         status = None if options.status is None else read_status(options.status)
-        found = memory.faults(None if status is None else status["memory"], options.status)
+        taken = Taken(memory.folder, self._judges.of)
+        found = memory.faults(None if status is None else status["memory"], options.status) + taken.faults
         if options.accept:
             accept(memory, options.accept, options.why, self._now)
-        doubted = {it.place for it in found if it.kind == "edited" and not is_held(memory.accepted)(it)}
-        originators = [Originator(name, path, memory.record(name), options, self._now, memory.count, file_place(name) in doubted)
-                       for name, path in sorted(folders.items())]
+        doubted = doubted_in(memory, found)
+        originators = [Originator(name, path, memory.record(name), options, self._now, memory.count, file_place(name) in doubted,
+                                  taken.merge(name, memory.record(name))) for name, path in sorted(folders.items())]
         reader = Reader(self._workplace, self._progress, options.keys.max_expanded)
-        self._verify(originators, reader, checker)
+        verify(originators, reader, self._judges, Pool(self._judges, options.jobs, self._workplace, self._progress), checker)
         for it in originators:
             it.judge(reader)
         self._find_copies(originators)
         absent = self._find_absent(folders)
         report = self._keep(originators, absent, found)
+        taken.remove(is_held(memory.accepted))
+        taken.complain()
         if options.status is not None:
             is_moved = not any(it.kind in ("older", "edited") for it in report.open)
             mark = memory.runs.mark if is_moved or status is None else status["memory"]
             write_status(options.status, report.status_fields(), self._now, status, mark)
         return report
-
-    def _verify(self, originators: List[Originator], reader: Reader, checker: Optional[Checker]) -> None:
-        """Has each file be verified that isn't known. A verdict soon stands on the disk: all of them may take hours."""
-        by_name = {it.name: it for it in originators}
-        works: List[Work] = []
-        for it in originators:
-            works += it.read(reader, self._judges, checker)
-        unsaved: Set[str] = set()
-        pool = Pool(self._judges, self._options.jobs, self._workplace, self._progress)
-        for count, (work, judged) in enumerate(pool.judge(works), 1):
-            by_name[work.originator].take(work, judged, self._judges)
-            unsaved.add(work.originator)
-            if count % MOST_UNSAVED == 0:
-                for name in unsaved:
-                    by_name[name].record.save()
-                unsaved.clear()
 
     def _find_copies(self, originators: List[Originator]) -> None:
         """Files that two originators have."""

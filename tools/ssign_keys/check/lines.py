@@ -34,6 +34,8 @@ FORMS: Dict[str, Dict[str, Tuple[type, ...]]] = {
     "lapse": {"name": (str,)},
     "run": {"time": (int,), "open": (list,)},
     "check": {"time": (int,), "status": (int,), "heads": (dict,), "open": (list,), "has_status": (bool,)},
+    "part": {"part": (str,), "time": (int,), "of": (list,)},
+    "end": {},
 }
 
 
@@ -46,8 +48,8 @@ def is_row(row: object) -> bool:
 class Lines:
     """Such a file, as far as it goes."""
 
-    def __init__(self, path: str) -> None:
-        """Reads it. Raises Fault where it can't be read."""
+    def __init__(self, path: str, is_there: bool = True) -> None:
+        """Reads it, if it is there. Raises Fault where it can't be read."""
         self.path = path
         self.rows: List[Row] = []
         self.fault: Optional[str] = None
@@ -55,15 +57,18 @@ class Lines:
         self.fact = ""
         """The SHA-256 of the line at which it breaks."""
         self._sums: List[str] = []
-        try:
-            with open(open_regular(path), "rb") as file:
-                octets = file.read()
-        except OSError as fault:
-            raise Fault(f"the memory {shown_name(path)} can't be read: {reason(fault)}") from fault
+        octets = self._octets() if is_there else b""
         whole, _, torn = octets.rpartition(b"\n")
         self._size = len(octets) - len(torn)
         for line in whole.split(b"\n") if self._size else []:
             self._take(line)
+
+    def _octets(self) -> bytes:
+        try:
+            with open(open_regular(self.path), "rb") as file:
+                return file.read()
+        except OSError as fault:
+            raise Fault(f"the memory {shown_name(self.path)} can't be read: {reason(fault)}") from fault
 
     def _take(self, line: bytes) -> None:
         """Takes a line. One that is none counts, so that each later one keeps its number."""

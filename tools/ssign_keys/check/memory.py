@@ -39,7 +39,7 @@ class Memory:
         self.folder = folder
         path = os.path.join(folder, RUNS)
         self._make(path, is_begun)
-        self.runs = Lines(path)
+        self.runs = self._lines(path)
         checks = [it for it in self.runs.rows if it["kind"] == "check"]
         if is_begun and checks:
             raise Fault(f"there is a memory in {shown_name(folder)} already: leave --begin out")
@@ -54,19 +54,16 @@ class Memory:
             self._take(row)
 
     def _make(self, path: str, is_begun: bool) -> None:
-        """Locks the folder. Makes it, if that was asked for."""
+        """Has the folder be there, and holds it. Makes it, if that was asked for."""
         try:
             if is_begun and not os.path.lexists(path):
                 os.makedirs(self.folder, 0o700, exist_ok=True)
                 self._refuse_rest()
             if os.stat(self.folder).st_mode & OTHERS_WRITE:
                 raise Fault(f"others may write to the memory {shown_name(self.folder)}: `chmod go-w`, and look at it")
-            self._lock = open_lock(os.path.join(self.folder, LOCK))
-            fcntl.flock(self._lock, fcntl.LOCK_EX | fcntl.LOCK_NB)
-            if not os.path.lexists(path):
-                if not is_begun:
-                    raise FileNotFoundError
-                begin(path, {"kind": "begin", "time": now(), "known": True})
+            if not is_begun and not os.path.lexists(path):
+                raise FileNotFoundError
+            self._hold(path)
         except FileNotFoundError as fault:
             raise Fault(f"there is no memory in {shown_name(self.folder)}: put it back; --begin begins one, and then nobody "
                         "knows what was there before") from fault
@@ -74,6 +71,16 @@ class Memory:
             raise Fault(f"another check uses the memory {shown_name(self.folder)} now: wait until it ends") from fault
         except OSError as fault:
             raise Fault(f"the memory {shown_name(self.folder)} can't be used: {reason(fault)}") from fault
+
+    def _hold(self, path: str) -> None:
+        """Locks it, and has the file `runs` be there. Raises OSError."""
+        self._lock = open_lock(os.path.join(self.folder, LOCK))
+        fcntl.flock(self._lock, fcntl.LOCK_EX | fcntl.LOCK_NB)
+        if not os.path.lexists(path):
+            begin(path, {"kind": "begin", "time": now(), "known": True})
+
+    def _lines(self, path: str) -> Lines:
+        return Lines(path)
 
     def _refuse_rest(self) -> None:
         """Refuses to begin a memory where another one was."""

@@ -14,6 +14,7 @@ from ..numbers import MOST_JOBS, number
 from ..programs import add_program_argument, find_program
 from . import keys as key_options
 from .keys import Keys
+from .part import Part, part
 
 # each file is read again within so many runs, though nothing shows that it changed
 TURNS = 30
@@ -40,6 +41,8 @@ class Options:
     match: Tuple[str, ...]
     reads_all: bool
     jobs: int
+    part: Optional[Part]
+    """The share of the files that is verified, if that is all that is done."""
     status: Optional[str]
     shows_head: bool
     is_json: bool
@@ -81,6 +84,8 @@ def add_arguments(parser: argparse.ArgumentParser) -> None:
                         "thirtieth of the others")
     parser.add_argument("--jobs", type=number(1, MOST_JOBS), default=1, metavar="N",
                         help="verify so many files at once (default: 1)")
+    parser.add_argument("--part", type=part, metavar="K/N", help="only verify the K-th of N shares of the files that need it, and "
+                        "leave what came of it in the memory for the next check; all N may run at once, on many machines")
     parser.add_argument("--status", metavar="FILE", help="replace FILE by what was found, in JSON, at the end of each check")
     parser.add_argument("--head", action="store_true", help="also print the newest file of each originator, with its SHA-256")
     parser.add_argument("--json", action="store_true", help="print an object of JSON for each finding, each originator and "
@@ -99,11 +104,14 @@ def read_options(arguments: argparse.Namespace) -> Options:
         raise Fault("--accept NAME and --why TEXT go together: say why a finding is accepted")
     if arguments.why is not None and not arguments.why.strip():
         raise Fault("--why is empty: say why the finding is accepted")
+    if arguments.part is not None and (arguments.accept or arguments.expect or arguments.keep or arguments.match
+                                       or arguments.status or arguments.head or arguments.json):
+        raise Fault("--part only verifies: leave --accept, --expect, --keep, --match, --status, --head and --json to the check after it")
     keys = key_options.read_keys(arguments)
     return Options(tuple(arguments.folders), keys, find_program(arguments), arguments.memory, arguments.begin,
                    tuple(arguments.accept), arguments.why or "", arguments.expect, arguments.keep,
-                   tuple(arguments.match or MATCH), arguments.read == "all", arguments.jobs, arguments.status,
-                   arguments.head, arguments.json, tuple(arguments.tsa_ca), tuple(arguments.tsa_ca_anchor),
+                   tuple(arguments.match or MATCH), arguments.read == "all", arguments.jobs, arguments.part,
+                   arguments.status, arguments.head, arguments.json, tuple(arguments.tsa_ca), tuple(arguments.tsa_ca_anchor),
                    arguments.html)
 
 

@@ -13,6 +13,7 @@ from .logs import Logs
 from .options import TURNS, Options, utc
 from .record import File, Record, digest
 from .stamps import Checker, Cover, Stamps, link_in
+from .taken import Done
 from .verdicts import Judged, Work
 from .walk_chain import Node, Others, Walk, Walked, rank
 
@@ -69,6 +70,8 @@ class Originator:
     """How many checks there were."""
     is_doubted: bool
     """Whether its part of the memory was edited: then each file is verified again."""
+    done: Done
+    """What tasks did for this check."""
     found: List[Finding] = field(default_factory=list)
     counts: Counts = field(default_factory=Counts)
     _folder: Optional[Folder] = None
@@ -94,6 +97,9 @@ class Originator:
         names: Dict[str, str] = {}
         for it in self._folder.signed:
             name = it.bare if names.setdefault(it.bare, it.name) == it.name else it.name
+            if self.options.part is not None and not self.options.part.has(self.name, it.bare):
+                continue
+            self.counts.files += 1
             sha256 = self._read_one(name, it, reader)
             if sha256 is None:
                 continue
@@ -123,7 +129,7 @@ class Originator:
     def _read_one(self, name: str, it: Lying, reader: Reader) -> Optional[str]:
         """The SHA-256 of a file. None where it can't be read, which is a finding."""
         kept, sha256 = self.record.reads.get(it.name, ((), ""))
-        if kept == it.stat and not self._is_due(sha256) and not self.is_doubted:
+        if kept == it.stat and (it.name in self.done.names or not self._is_due(sha256) and not self.is_doubted):
             return sha256
         try:
             sha256 = reader.sha256(it)
@@ -131,14 +137,15 @@ class Originator:
             self.found.append(find("unreadable", fault.fact, fault.why, self.name, name))
             self._unread.add(name)
             return None
-        if self.record.reads.get(it.name) != (it.stat, sha256):
+        # what a task read counts as read, also where it is as it was
+        if self.record.reads.get(it.name) != (it.stat, sha256) or self.options.part is not None:
             self.record.put({"kind": "read", "name": it.name, "stat": list(it.stat), "sha256": sha256})
         return sha256
 
     def _has_to_be_verified(self, here: Here, judges: Judges) -> bool:
         """Whether there is no verdict that holds. What another program, or more keys, would find, is looked at by turns."""
         file = here.file
-        if file is None or self.is_doubted:
+        if file is None or self.is_doubted and file.sha256 not in self.done.sums:
             return True
         if judges.has_times and file.stamped != self._stamps.time_of(file.sha256, file.seen):
             return True
@@ -172,7 +179,6 @@ class Originator:
             self.found.append(find("new", "new", "no check saw it before", self.name))
         if self._folder is None:
             return
-        self.counts.files = len(self._folder.signed)
         if not self._folder.signed and self.record.held:
             what = f"its folder {shown_name(self.folder)} has no signed file any more"
             self.found.append(find("gone", "gone", what, self.name))

@@ -146,6 +146,10 @@ class Record:
         self._put.append(row)
         self._take(row)
 
+    def forget_put(self) -> None:
+        """Has what was put not be written by the next `save`, because another file has it."""
+        self._put = []
+
     def save(self) -> None:
         """Has all that was put stand on the disk."""
         put, self._put = self._put, []

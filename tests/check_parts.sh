@@ -1,0 +1,8 @@
+#!/usr/bin/env bash
+# `ssign-keys check --part`: tasks that are stopped, torn, edited, doubled or missing, and what a check takes: tests/check_parts.py.
+# shellcheck source=tests/lib.sh
+. "$(dirname -- "$0")/lib.sh"
+need_program
+python3 -c 'import cryptography' 2>/dev/null || leave_out 'the Python package cryptography is missing'
+
+SSIGN=$program python3 -B "$root/tests/check_parts.py"
