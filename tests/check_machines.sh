@@ -145,9 +145,10 @@ begin() {
 
 # found WHAT: the check after the tasks found both damages, and nothing else; and it had nothing to verify.
 found() {
-    local said=''
+    local said='' wanted
     [[ $status == 1 ]] || said="    status $status"$'\n'
-    [[ $(cut -d: -f1 "$scratch/checked") == "gate/g-07.log.frames missing"$'\n'"gate/g-14.log.frames damaged"$'\n'"19 files of 1 originator" ]] ||
+    wanted="gate/g-07.log.frames missing"$'\n'"gate/g-14.log.frames damaged"$'\n'"19 files of 1 originator"
+    [[ $(cut -d: -f1 "$scratch/checked") == "$wanted" ]] ||
         said+="    $(cat "$scratch/checked" "$scratch/err")"
     tell "$1" "$said"
     holds "$1: the memory has each verdict once" test "$(grep -c '"kind":"file"' "$scratch/memory/gate.memory")" = 19

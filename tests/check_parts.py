@@ -1,6 +1,6 @@
 #!/usr/bin/env python3
-"""`ssign-keys check --part`: tasks verify shares of the files, and a check takes what they found: stopped, torn, edited, for other
-octets, keys or programs, twice at once, or not at all.
+"""`ssign-keys check --part`: tasks verify shares of the files, and a check takes what they found: stopped, torn, edited, for
+other octets, keys or programs, twice at once, or not at all.
 
     check_parts.py
 
@@ -19,7 +19,7 @@ import time
 import check_world as world
 from check import Bench, fault_of, night
 from check_memory import chained, rows_of
-from check_world import NOW, START, copy, read, write
+from check_world import NOW, copy, read, write
 from ssign_keys.check import files, verdicts
 
 passed = failed = 0
@@ -160,7 +160,8 @@ def findings(bench):
         tell("tasks over damaged files", bench.tasks(TASKS, *words))
         bench.work()
         after = bench.check(*words)
-        tell("the findings are the same", "" if after == alone and after[0] == 1 and len(after[1]) == 6 else f"{after}\n    {alone}")
+        is_same = after == alone and after[0] == 1 and len(after[1]) == 6
+        tell("the findings are the same", "" if is_same else f"{after}\n    {alone}")
         # the pipe and what isn't compressed can't be read, nor verified
         tell("nothing is verified twice", did(bench, 0, 2))
 
@@ -188,7 +189,7 @@ def killed(bench):
             pid = os.fork()
             if pid == 0:
                 os.setpgid(0, 0)
-                world.tool("check", bench.logs, "--memory", bench.memory, *bench.words, "--begin", "--part", f"{part}/{TASKS}", now=NOW)
+                bench.task(f"{part}/{TASKS}", "--begin")
                 os._exit(0)
             os.setpgid(pid, pid)
             pids.append(pid)
@@ -273,7 +274,8 @@ def edited(bench):
     again(b"".join([*lines[:at], clean, *lines[at + 1:]]))
     os.remove(bench.parts()[0])
     tell("it is removed", fault_of(bench.check(), 1, [bad]))
-    for what, octets in (("hello", b"hello\n"), ("a line too many", whole + b'{"kind":"end"}\n'), ("two files in one", whole + whole),
+    for what, octets in (("hello", b"hello\n"), ("a line too many", whole + b'{"kind":"end"}\n'),
+                         ("two files in one", whole + whole),
                          ("the lines of a check", chained([{"kind": "begin", "time": NOW, "known": True}, *rows[1:]])),
                          ("a file of the memory", read(f"{bench.memory}/alpha.memory"))):
         tell(f"{what} in its place", fault_of(again(octets), 1, [finding, bad]))
@@ -284,8 +286,9 @@ def edited(bench):
         said = world.tool("check", bench.logs, "--memory", bench.memory, *bench.words, "--begin", now=bench.now)
         refused(f"{what} in its place", said, "can't be read")
     # lines that a task can't have written, in a chain that is right
-    for what, change in (("no originator", {"originator": 7}), ("a session of one word", {"session": ["x"]}), ("no list", {"of": []}),
-                         ("no such session", {"session": ["a", "b", "c", "d"]}), ("a stat of one list", {"stat": [[1]]})):
+    for what, change in (("no originator", {"originator": 7}), ("a session of one word", {"session": ["x"]}),
+                         ("no list", {"of": []}), ("no such session", {"session": ["a", "b", "c", "d"]}),
+                         ("a stat of one list", {"stat": [[1]]})):
         for kind in ("file", "read"):
             made = [{**it, **change} if it["kind"] == kind else it for it in rows]
             tell(f"{what} in each {kind}", fault_of(again(chained(made)), 1, [bad]))
@@ -310,7 +313,7 @@ def others(bench):
     bench.work()
     bench.now += 60
     status, out, err = world.tool("check", bench.logs, "--memory", bench.memory, *bench.words, "--begin", now=bench.now)
-    wanted = f"{len(left)} files of tasks in the memory are not taken, because they were made with other keys or another program"
+    wanted = f"nothing is taken of {len(left)} files of tasks in the memory, made with other keys or another program"
     tell("other keys are named", "" if (status, err.count("\n")) == (0, 1) and wanted in err and out.endswith(b"clean\n") else
          f"{status} {out!r} {err!r}")
     tell("all is verified", did(bench, FILES))
@@ -475,7 +478,6 @@ def refusals(bench):
 
 
 def main():
-    assert START
     with tempfile.TemporaryDirectory() as top:
         world.build(top)
         words = [it for name in ("alpha", "beta") for it in ("--key", f"{top}/keys/{name}/public-key.pem")]

@@ -103,8 +103,9 @@ class Check:
         if options.accept:
             accept(memory, options.accept, options.why, self._now)
         doubted = doubted_in(memory, found)
-        originators = [Originator(name, path, memory.record(name), options, self._now, memory.count, file_place(name) in doubted,
-                                  taken.merge(name, memory.record(name))) for name, path in sorted(folders.items())]
+        originators = [Originator(name, path, memory.record(name), options, self._now, memory.count,
+                                  file_place(name) in doubted, taken.merge(name, memory.record(name)))
+                       for name, path in sorted(folders.items())]
         reader = Reader(self._workplace, self._progress, options.keys.max_expanded)
         verify(originators, reader, self._judges, Pool(self._judges, options.jobs, self._workplace, self._progress), checker)
         for it in originators:

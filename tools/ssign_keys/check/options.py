@@ -84,8 +84,8 @@ def add_arguments(parser: argparse.ArgumentParser) -> None:
                         "thirtieth of the others")
     parser.add_argument("--jobs", type=number(1, MOST_JOBS), default=1, metavar="N",
                         help="verify so many files at once (default: 1)")
-    parser.add_argument("--part", type=part, metavar="K/N", help="only verify the K-th of N shares of the files that need it, and "
-                        "leave what came of it in the memory for the next check; all N may run at once, on many machines")
+    parser.add_argument("--part", type=part, metavar="K/N", help="only verify the K-th of N shares of the files that need it, "
+                        "and leave what came of it in the memory for the next check; all N may run at once, on many machines")
     parser.add_argument("--status", metavar="FILE", help="replace FILE by what was found, in JSON, at the end of each check")
     parser.add_argument("--head", action="store_true", help="also print the newest file of each originator, with its SHA-256")
     parser.add_argument("--json", action="store_true", help="print an object of JSON for each finding, each originator and "
@@ -106,7 +106,8 @@ def read_options(arguments: argparse.Namespace) -> Options:
         raise Fault("--why is empty: say why the finding is accepted")
     if arguments.part is not None and (arguments.accept or arguments.expect or arguments.keep or arguments.match
                                        or arguments.status or arguments.head or arguments.json):
-        raise Fault("--part only verifies: leave --accept, --expect, --keep, --match, --status, --head and --json to the check after it")
+        raise Fault("--part only verifies: leave --accept, --expect, --keep, --match, --status, --head and --json to the check "
+                    "after it")
     keys = key_options.read_keys(arguments)
     return Options(tuple(arguments.folders), keys, find_program(arguments), arguments.memory, arguments.begin,
                    tuple(arguments.accept), arguments.why or "", arguments.expect, arguments.keep,

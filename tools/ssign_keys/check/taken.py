@@ -1,7 +1,7 @@
 """What tasks left in the memory for the next check: which files they read, and what came of those that they verified.
 
-Each task wrote a file of its own, chained as the other files of the memory are. A line counts once another one follows it, which
-has its SHA-256: so a letter that was changed in what counts is always seen.
+Each task wrote a file of its own, chained as the other files of the memory are. A line counts once another one follows it,
+which has its SHA-256: so a letter that was changed in what counts is always seen.
 """
 from __future__ import annotations
 
@@ -85,10 +85,8 @@ class Taken:
     def complain(self) -> None:
         """Says which files of tasks are of no use here."""
         if self._other:
-            one = len(self._other) == 1
-            complain(cli.TOOL, f"{grouped(len(self._other), 'file')} of tasks in the memory {'is' if one else 'are'} not taken, because "
-                     f"{'it was' if one else 'they were'} made with other keys or another program: check with those, or remove "
-                     f"{few(self._other)}")
+            complain(cli.TOOL, f"nothing is taken of {grouped(len(self._other), 'file')} of tasks in the memory, made with "
+                     f"other keys or another program: check with those, or remove {few(self._other)}")
 
     def remove(self, is_accepted: Callable[[Finding], bool]) -> None:
         """Removes the files whose lines the memory has now, and those that were accepted as edited."""
