@@ -14,7 +14,6 @@ trap 'kill -- "${started[@]}" 2>"$scratch/out"; wait; rm -rf -- "$scratch"' EXIT
 # recipe WORD: the block of the page, four blanks before each line, that has this word in it; its names are those of the test.
 recipe() {
     awk -v word="$1" '/^    / { block = block substr($0, 5) "\n"; next }
-        /^$/ && block != "" { block = block "\n"; next }
         { if (index(block, word)) printf "%s", block; block = "" }
         END { if (index(block, word)) printf "%s", block }' "$root/docs/scale.md" |
         sed -e "s:/srv/archive:$scratch/archive:g; s:/etc/ssign/trust:$scratch/trust:g; s:/srv/memory:$scratch/memory:g"
@@ -25,7 +24,7 @@ run_recipe() {
     (cd -- "$scratch" && timeout 900 bash recipe) >"$scratch/out" 2>"$scratch/err" </dev/null
     status=$?
     # tasks print a line each, in any order
-    grep -v '^part ' "$scratch/out" >"$scratch/checked"
+    grep -v '^part \|^Submitted batch job ' "$scratch/out" >"$scratch/checked"
 }
 
 # free_ports COUNT: so many ports of this machine that nobody has now.
@@ -197,8 +196,8 @@ if [[ ${missing-} ]]; then
     echo "$name: skipped Slurm, because $missing is missing (apt-get install slurm-wlm munge)"
 else
     start_slurm
-    recipe '#SBATCH' >"$scratch/check.sbatch"
-    recipe 'sbatch --wait' >"$scratch/recipe"
+    recipe '--job-name=ssign-check' >"$scratch/check.sbatch"
+    recipe 'sbatch --wait check.sbatch' >"$scratch/recipe"
     begin
     run_recipe
     found 'an array of Slurm'
