@@ -13,8 +13,8 @@ cd -- "$root" || exit 1
 # a script that takes longer hangs, even beside much other work
 longest=1800
 # the scripts that take longest begin first, so that none of them is alone at the end
-first=(verify archive_keys live large refusals kept archive salvage_keys keys salvage stamps disputes answers-out linear strangers mistakes ssign sealing deliveries
-    verdict reports bombs archive_results manifest)
+first=(verify live large refusals kept archive salvage_keys keys salvage stamps disputes answers-out linear strangers mistakes ssign sealing deliveries
+    verdict reports bombs manifest)
 
 usage() {
     echo 'usage: tests/all.sh [--gate] [-j N] [NAME..]' >&2

@@ -1,24 +1,23 @@
 #!/usr/bin/env python3
-"""Makes archives of signed logs for tests/archive.sh and bench/archive.sh, by `ssign plan` and `ssign sign`.
+"""Makes an archive of signed logs for tests/archive.sh, by `ssign plan` and `ssign sign`.
 
-    archives.py make FOLDER [--originators N] [--nights N] [--messages N] [--lines]
+    archives.py FOLDER
 
-FOLDER gets `archive`, with a folder for each originator and a file in it for each night, plain or compressed; `answers`,
-which says yes to all that is asked about them; and `answers-of`, with an answers file for each originator. Of the first originator all nights are one session, of the
-second each night is one, and of the others a session ends within a night. `--messages` is how many a night has.
+FOLDER gets `archive`, with a folder for each of four originators and a file in it for each of eight nights, plain or
+compressed. Of the first originator all nights are one session, of the second each night is one, and of the others a session
+ends within a night.
 """
 from __future__ import annotations
 
-import argparse
 import gzip
 import lzma
 import os
 import subprocess
+import sys
 from typing import Iterator, List, Sequence
 
-from review_runs import as_answers
-
 PROGRAM = os.environ["SSIGN"]
+ORIGINATORS, NIGHTS, MESSAGES = 4, 8, 40
 KEY = "2026-01-01T00:00:00Z K S0VZ"
 
 
@@ -87,41 +86,21 @@ def write(path: str, octets: bytes, form: int) -> None:
             file.write(octets)
 
 
-def make(folder: str, originators: int, nights: int, messages: int, are_lines: bool) -> None:
-    """The archive and its answers."""
-    os.makedirs(os.path.join(folder, "answers-of"))
-    with open(os.path.join(folder, "answers"), "wb") as answers:
-        for originator in range(1, originators + 1):
-            log, number = b"", 0
-            for rsid, count in enumerate(sessions_of(originator, nights, messages), 1):
-                texts = [message(originator, it) for it in range(number, number + count)]
-                log += sign(texts, host(originator), rsid, os.path.join(folder, "seals"))
-                number += count
-            asked = as_answers(ssign(["questions"], log))
-            answers.write(asked)
-            with open(os.path.join(folder, "answers-of", f"{host(originator)}.answers"), "wb") as file:
-                file.write(asked)
-            place = os.path.join(folder, "archive", host(originator))
-            os.makedirs(place)
-            stored = list(unframed(log))
-            for night in range(nights):
-                part = stored[len(stored) * night // nights:len(stored) * (night + 1) // nights]
-                octets = b"".join(it + b"\n" for it in part) if are_lines else frames(part)
-                write(os.path.join(place, f"night-{night + 1}.log"), octets, (originator + night) % 3)
-
-
-def main() -> None:
-    parser = argparse.ArgumentParser(description=__doc__, formatter_class=argparse.RawDescriptionHelpFormatter)
-    commands = parser.add_subparsers(dest="command", required=True)
-    making = commands.add_parser("make")
-    making.add_argument("folder")
-    making.add_argument("--originators", type=int, default=8)
-    making.add_argument("--nights", type=int, default=8)
-    making.add_argument("--messages", type=int, default=40)
-    making.add_argument("--lines", action="store_true")
-    given = parser.parse_args()
-    make(given.folder, given.originators, given.nights, given.messages, given.lines)
+def make(folder: str) -> None:
+    """The archive."""
+    for originator in range(1, ORIGINATORS + 1):
+        log, number = b"", 0
+        for rsid, count in enumerate(sessions_of(originator, NIGHTS, MESSAGES), 1):
+            texts = [message(originator, it) for it in range(number, number + count)]
+            log += sign(texts, host(originator), rsid, os.path.join(folder, "seals"))
+            number += count
+        place = os.path.join(folder, "archive", host(originator))
+        os.makedirs(place)
+        stored = list(unframed(log))
+        for night in range(NIGHTS):
+            part = stored[len(stored) * night // NIGHTS:len(stored) * (night + 1) // NIGHTS]
+            write(os.path.join(place, f"night-{night + 1}.log"), frames(part), (originator + night) % 3)
 
 
 if __name__ == "__main__":
-    main()
+    make(sys.argv[1])

@@ -1,5 +1,6 @@
 #!/usr/bin/env bash
-# The recipes of docs/scale.md for a check on many machines, word by word: with GNU parallel, with it over SSH, and with Slurm.
+# The recipes of docs/scale.md for a check on many machines, word by word: with GNU parallel, with it over SSH, and with Slurm;
+# and that for the log of a collector.
 # What isn't installed is left out, and said. Only the names of folders, machines and the port of SSH are others.
 # shellcheck source=tests/lib.sh
 . "$(dirname -- "$0")/lib.sh"
@@ -174,6 +175,17 @@ begin
 run_recipe
 holds 'twenty tasks did all' test "$(tasks_of "$scratch/out")" = '20 19'
 found 'tasks by GNU parallel'
+
+# the log of a collector, cut into parts that are reviewed one by one
+mkdir "$scratch/cut"
+cp "$scratch/keys/public-key.pem" "$scratch/cut"
+for host in alpha beta; do
+    sed "s/ gate / $host /" "$scratch/signed/gate/g-01.log" >"$scratch/$host.log"
+    ssign-keys sign --key "$scratch/keys/private-key.pem" --rsid 7 --host "$host" --app signer --lines "$scratch/$host.log"
+done | gzip >"$scratch/cut/collector.log.gz"
+{ recipe 'archive split'; recipe 'parallel --tag'; } | sed "s:\./tools/:$root/tools/:; 1i cd cut" >"$scratch/recipe"
+run_recipe
+holds 'parts of a collector: both are clean' test "$status $(grep -c 'Verdict: All 5 announced messages are present' "$scratch/out")" = '0 2'
 
 # with GNU parallel over SSH: two names of this machine, at a port and with a key of the test
 if ! command -v sshd >"$scratch/out" || ! command -v ssh-keygen >"$scratch/out"; then

@@ -80,7 +80,7 @@ behind() {
     'ssign-keys manifest') echo ;;
     'ssign-keys make' | 'ssign-keys check') echo sub ;;
     'ssign-keys '* | 'ssign-archive split') lines "$here" ;;
-    'ssign-archive '*) echo sub ;;
+    'ssign-archive join') echo sub ;;
     *) return 1 ;;
     esac
 }

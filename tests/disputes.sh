@@ -374,13 +374,6 @@ holds 'a stranger spells three payloads: the numbers' test "$(grep -c '^    numb
 holds 'a stranger spells three payloads: only own blocks are asked about' test "$(grep -c '^{"line":"yes?"' asked)" = \
     "$("$program" inspect <own | grep -c '^certificate \|^signature ')"
 
-# ---- an archive with keys
-mkdir -p archive/gate
-cp log archive/gate/night-1
-timeout "$patience" "$root/tools/archive" review archive --results results "${key[@]}" --jobs 1 >out 2>err
-holds 'an archive: its session is joined, and all numbers are there' grep -Eqx 'gate +1 +[0-9]+ +10 +0 +0 +0 +7 +0 +joined 1 +7 findings' out
-
-
 # ---- many blocks, in little memory
 disputes octet 10000 <signed >log
 (ulimit -v 1500000 && exec timeout "$patience" "$keys_program" verify "${key[@]}" --ignore-strangers log >out 2>err)

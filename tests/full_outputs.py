@@ -37,7 +37,7 @@ def writers(tools: str) -> Iterator[Writer]:
         yield Writer([tool, "--help"], "/dev/null", False)
         yield Writer([tool, "--version"], "/dev/null", False)
     yield Writer([keys, "verify", "--help"], "/dev/null", False)
-    yield Writer([archive, "review", "--help"], "/dev/null", False)
+    yield Writer([archive, "split", "--help"], "/dev/null", False)
     yield Writer([*verify, "long"], "/dev/null", False)
     yield Writer([*verify, "--raw", "long"], "/dev/null", True)
     yield Writer([*verify, "--json", "long"], "/dev/null", True)

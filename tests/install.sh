@@ -164,14 +164,6 @@ keys --help
 expect 'ssign-keys --help' 0 'SOME TEXT' ''
 mkdir -p stored/archive/gate
 cp "$signed/signed.frames" stored/archive/gate/log
-if parallel --version 2>&1 </dev/null | grep -q '^GNU parallel'; then
-    PATH=$scratch/fake:$PATH timeout "$patience" "$bin/ssign-archive" review stored/archive --results stored/results \
-        --answers "$signed/signed.answers" </dev/null >out 2>err
-    status=$?
-    expect 'ssign-archive review' 0 'SOME TEXT' ''
-else
-    echo "$name: skipped ssign-archive review, since GNU parallel isn't here"
-fi
 PATH=$scratch/fake:$PATH timeout "$patience" "$bin/ssign-archive" split --by host stored/archive/gate/log stored/split </dev/null >out 2>err
 status=$?
 holds 'ssign-archive split' test "$status" -le 1 -a -s out -a ! -s err

@@ -401,8 +401,8 @@ def table(program):
         yield verify + ["signed", word], b"", f"there is no option {word} " + SEE % "verify"
     yield [KEYS, "make", "a", "b"], b"", "unrecognized arguments: b " + SEE % "make"
     yield [KEYS, "unheard-of", "--frame"], b"", "there is no command unheard-of (see `ssign-keys --help`)"
-    yield [ARCHIVE, "reviwe"], b"", "there is no command reviwe: perhaps review is meant (see `ssign-archive --help`)"
-    yield [ARCHIVE, "review", "--whoel", "x"], b"", "there is no option --whoel: perhaps --whole is meant (see `ssign-archive review --help`)"
+    yield [ARCHIVE, "spilt"], b"", "there is no command spilt: perhaps split is meant (see `ssign-archive --help`)"
+    yield [ARCHIVE, "join", "--lnies", "x"], b"", "there is no option --lnies: perhaps --lines is meant (see `ssign-archive join --help`)"
     yield [KEYS, "verify", "signed"], b"", ("", "")
     yield [KEYS, "make"], b"", "the following arguments are required: DIR " + SEE % "make"
 

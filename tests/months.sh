@@ -216,38 +216,6 @@ echo 'count 1' >broken
 refused 'bad first counters' "the counters file broken: line 1: $(words_of C1)" --from broken --counters c5 "$night"
 refused 'first counters that are gone' "the counters file gone can't be read: No such file or directory" --from gone "$night"
 
-# ---- an archive of which each part has some of the nights
-if command -v parallel >/dev/null; then
-    mkdir -p archive/1 archive/2 archive/3
-    cp logs/night-0* archive/1 && cp logs/night-1* archive/2 && cp logs/night-[23]* archive/3
-    # archived WHAT STATUS LINE ARG..: the review of the archive prints this line
-    archived() {
-        timeout "$patience" "$root/tools/archive" review archive --results results --key keys/public-key.pem --manifest manifest \
-            --jobs 4 "${@:4}" >out 2>err
-        status=$?
-        tell "$1" "$([[ $status == "$2" ]] && grep -qFx -e "$3" out || { echo "status $status"; head -c 2000 out err; })"
-    }
-    divided='session gate signer - 7 has blocks in 3 parts; only one review of all of them together shows what is true of it'
-    archived 'parts of one session' 1 "in 1, 2, 3: $divided"
-    archived 'parts with nights between counters' 0 'Clean. 3 parts: 3 clean, 0 with findings, 0 not reviewed in full.' --from-manifest
-    archived 'the same once more, from its results' 0 'Clean. 3 parts: 3 clean, 0 with findings, 0 not reviewed in full.' --from-manifest
-    cp logs/night-05.frames archive/2
-    archived 'a night in two parts' 1 "in 1, 2, 3: $divided" --from-manifest
-    rm archive/2/night-05.frames
-    cp every/night-12.frames archive/2
-    archived 'a damaged night' 1 'Findings. 3 parts: 2 clean, 1 with findings, 0 not reviewed in full.' --from-manifest
-    cp logs/night-15.frames archive/2/night-12.frames
-    archived 'another night in its place' 1 'Findings. 3 parts: 2 clean, 1 with findings, 0 not reviewed in full.' --from-manifest
-    holds 'another night in its place: it is missing' grep -q ': hole gate signer - 7 0 0 ' out
-    rm archive/2/night-12.frames
-    archived 'a night that is gone' 1 "in .: manifest, night-12.frames: missing, entry 12 names it, and it isn't here" --from-manifest
-    timeout "$patience" "$root/tools/archive" review archive --results other-results --key keys/public-key.pem --from-manifest >out 2>err
-    status=$?
-    expect 'nights of no manifest' 2 '' 'ssign-archive: --from-manifest begins at the counters of a manifest: name it with --manifest'
-else
-    echo "$name: skipped the parts of an archive, because GNU parallel is missing"
-fi
-
 # a signal ends all of it
 timeout -s TERM 0.7 "$root/tools/ssign-keys" verify --key keys/public-key.pem --jobs 4 --nights manifest logs >out 2>err
 holds 'a signal: nothing is printed' test ! -s out

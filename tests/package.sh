@@ -46,27 +46,6 @@ P
 holds 'an old Python can read them' python3 old.py "$root"/tools/{ssign-keys,archive} \
     "$root"/tools/ssign_{keys,archive}/__{init,main}__.py "$root/tools/ssign_keys/launch.py"
 
-# ---- A locale of another encoding: ssign-archive starts anew, in the same way, once
-# starts WORD..: what Python is started with instead, after its own path.
-starts() {
-    LC_ALL=POSIX PYTHONCOERCECLOCALE=0 PYTHONUTF8=0 python3 -c '
-import os, runpy, sys
-os.execv = lambda path, words: sys.exit("|".join(words[1:]))
-sys.path.insert(0, sys.argv.pop(1))
-if sys.argv[1] == "-m":
-    del sys.argv[:2]
-    runpy.run_module(sys.argv[0], run_name="__main__", alter_sys=True)
-else:
-    del sys.argv[0]
-    runpy.run_path(sys.argv[0], run_name="__main__")
-' "$root/tools" "$@" 2>&1
-}
-holds 'the launcher starts anew' test "$(starts "$root/tools/archive" table 'a b')" = "-X|utf8|-B|$root/tools/archive|table|a b"
-holds 'the module starts anew' test "$(starts -m ssign_archive table 'a b')" = '-X|utf8|-B|-m|ssign_archive|table|a b'
-LC_ALL=POSIX PYTHONCOERCECLOCALE=0 PYTHONUTF8=0 timeout "$patience" python3 "$root/tools/archive" --version >out 2>err
-status=$?
-expect 'and then it runs' 0 "ssign-archive $version" ''
-
 # ---- pip, where an interpreter has what builds a package
 builder=
 for it in python3 /usr/bin/python3; do
@@ -108,7 +87,7 @@ as_launcher() {
     holds "$what: complaint" cmp -- wanted.err err
 }
 as_launcher 'the help' ssign-keys ssign-keys --help
-as_launcher 'the help of a command' ssign-archive archive review --help
+as_launcher 'the help of a command' ssign-archive archive split --help
 as_launcher 'a mistake' ssign-keys ssign-keys verifi
 if there/bin/python -c 'import cryptography' 2>err; then
     signed=$root/examples/signed
@@ -117,15 +96,7 @@ if there/bin/python -c 'import cryptography' 2>err; then
 else
     echo "$name: skipped a verdict, because the Python module cryptography is missing"
 fi
-if command -v parallel >out; then
-    mkdir -p logs/gate && cp -- "$root/examples/signed/signed.frames" logs/gate/
-    review=(review logs --answers "$root/examples/signed/signed.answers" --jobs 1 --results)
-    timeout "$patience" there/bin/python "$root/tools/archive" "${review[@]}" one >wanted 2>err </dev/null
-    timeout "$patience" there/bin/ssign-archive "${review[@]}" other >out 2>err </dev/null
-    status=$?
-    expect 'an archive, whose parts the installed command reviews' 0 "$(<wanted)" ''
-    holds 'one part was reviewed' grep -q gate out
-else
-    echo "$name: skipped the review of an archive, because GNU parallel is missing"
-fi
+mkdir -p logs/gate && cp -- "$root/examples/signed/signed.frames" logs/gate/
+as_launcher 'the messages of a part' ssign-archive archive join logs/gate
+holds 'which are all there' cmp -- out "$root/examples/signed/signed.frames"
 finish

@@ -254,12 +254,10 @@ sys.exit(importlib.import_module(sys.argv[2] + ".cli").main(sys.argv[3:]))' "$ro
 }
 printf -- '-----BEGIN PGP PUBLIC KEY BLOCK-----\n' >gpg-key
 printf '\050\265\057\375xxxx' >packed.zst
-mkdir -p archive/part && cp signed archive/part
 late 'ssign-keys: the command gpg came to no end in 0.5 seconds' ssign_keys verify --key gpg-key signed
 late 'ssign-keys: packed.zst is compressed by zstd, and the command zstd was silent for 0.5 seconds' \
     ssign_keys verify --key one/public-key.pem packed.zst
 late 'ssign-keys: the command openssl came to no end in 0.5 seconds' ssign_keys stamp counters --tsa-command true --tsa-ca rsa.crt
-late "ssign-archive: the command $scratch/hang/parallel came to no end in 0.5 seconds" ssign_archive review archive --results results
 
 # ---- a private key that others may change; who may read it isn't asked
 cp one/private-key.pem mine.pem

@@ -94,7 +94,7 @@ Description: reviews and signs logs of signed syslog messages
  which no signature accounts for. It checks offline, even years later.
  .
  ssign-keys makes keys, signs stored logs, and checks signatures.
- ssign-archive reviews archives of many logs, on one machine or on several.
+ ssign-archive cuts the log of a collector into parts.
 CONTROL
 }
 

@@ -1,1 +1,1 @@
-"""Reviews an archive: many folders of logs, each by a run of the program ssign, on one machine or on several."""
+"""Cuts the log of a collector into parts, and writes the messages of a part."""

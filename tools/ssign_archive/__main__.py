@@ -1,14 +1,12 @@
 """Runs ssign-archive as a process: the launcher does it, an installed command, and `python3 -m ssign_archive`."""
 import sys
 
-from ssign_keys.launch import require_python, require_utf8
+from ssign_keys.launch import require_python
 
 
 def start() -> None:
     """Ends the process with the status of its command."""
     require_python("ssign-archive")
-    # results name files in UTF-8, so that they are the same under each locale and on each machine
-    require_utf8("ssign_archive")
     from .cli import main
     sys.exit(main(sys.argv[1:]))
 

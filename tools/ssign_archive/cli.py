@@ -7,28 +7,14 @@ from ssign_keys import usage
 
 TOOL = usage.Tool(
     name="ssign-archive",
-    purpose="Reviews archives of signed logs, folder by folder.",
+    purpose="Cuts the log of a collector into parts, and writes the messages of a part.",
     commands={
         "split": "cut a log into parts that can be reviewed apart",
-        "join": "write the messages of a folder, as a review of it reads them",
-        "review": "review each folder of an archive, and put the reports together",
-        "prepare": "write what the commands `part` and `table` need, and review nothing",
-        "part": "review one folder of a prepared archive",
-        "batch": "review several folders of a prepared archive, in one process",
-        "table": "put together the reports that are there",
-        "report": "write a page about what `table` prints, with a grid of nights by originators",
-        "fixity": "read every log again, and compare it with what was reviewed",
+        "join": "write the messages of all logs of a folder, as one log",
     },
     examples={
         "split": ("ssign-archive split --by host collector.log.gz archive",),
         "join": ("ssign-archive join archive/gate | ssign questions > questions",),
-        "review": ("ssign-archive review archive --results results --answers answers --jobs 4",),
-        "prepare": ("ssign-archive prepare archive --results results --answers answers",),
-        "part": ("ssign-archive part results gate",),
-        "batch": ("ssign-archive batch results 1",),
-        "table": ("ssign-archive table results",),
-        "report": ("ssign-archive report results --html archive.html --pages pages",),
-        "fixity": ("ssign-archive fixity results --jobs 4",),
     },
     package=__package__,
 )

@@ -1,4 +1,4 @@
-"""Writes the messages of a folder, as a review of it reads them, for whoever asks the questions about them."""
+"""Writes the messages of all logs of a folder as one log, each file read from its own front on."""
 from __future__ import annotations
 
 import argparse
@@ -13,7 +13,7 @@ from ssign_keys.workplace import Workplace, notify
 
 from .findings import file_findings
 from .sources import How, Reader
-from .tree import files_of
+from .folder import files_of
 
 
 def add_arguments(parser: argparse.ArgumentParser) -> None:
@@ -42,5 +42,5 @@ def run(arguments: argparse.Namespace) -> int:
         write_out(batched(reader.octets()))
     found = file_findings(os.path.basename(folder), reader.read)
     for it in found:
-        notify(f"ssign-archive: {it.text()}")
+        notify(f"ssign-archive: {it}")
     return 0 if not found else 1 if all(it.octet is None or it.why == "torn" for it in reader.read) else 2

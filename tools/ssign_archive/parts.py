@@ -10,7 +10,7 @@ from ssign_keys.faults import Fault
 from ssign_keys.files import reason
 from ssign_keys.words import shown_name
 
-from .tree import BESIDE
+from .folder import PLACES
 
 # what is held before it is written, of one part and of all together
 HELD = 1 << 20
@@ -26,10 +26,7 @@ def name_of(kind: str, *words: bytes) -> str:
     if len(name) > LONGEST_NAME:
         name = f"{name[:LONGEST_NAME - 17]}~{hashlib.sha256(name.encode()).hexdigest()[:16]}"
     # such a name beside a folder says something of that folder
-    for ending in BESIDE:
-        if name.endswith(ending):
-            name = f"{name[:-len(ending)]}%2E{ending[1:]}"
-    return name
+    return f"{name[:-len(PLACES)]}%2E{PLACES[1:]}" if name.endswith(PLACES) else name
 
 
 class Parts:
@@ -79,7 +76,7 @@ class Parts:
         folder = os.path.join(self._folder, self.names[number])
         try:
             os.makedirs(folder, exist_ok=True)
-            for path, octets in ((os.path.join(folder, "log"), log), (f"{folder}.places", places)):
+            for path, octets in ((os.path.join(folder, "log"), log), (f"{folder}{PLACES}", places)):
                 with open(path, "ab") as file:
                     file.write(octets)
         except OSError as fault:

@@ -20,7 +20,7 @@ from ssign_keys.workplace import Workplace
 
 from .feeding import run_over
 from .messages import DEFAULT_LONGEST, Cutter, Whole
-from .tree import Stored, look, stored_of
+from .folder import Stored, look, stored_of
 
 
 @dataclass
@@ -31,9 +31,6 @@ class Read:
     place: int
     messages: int = 0
     sha256: str = ""
-    # of the expanded file, as far as it was read
-    plain_size: int = 0
-    plain_sha256: str = ""
     # the octet, of the expanded file, of the first message that wasn't read, and why; "torn" is a finding alone
     octet: Optional[int] = None
     why: str = ""
@@ -167,15 +164,13 @@ class Passage:
     def wholes(self, given: int = 0) -> Iterator[Whole]:
         """Its whole messages, but for the first ones that were given on before. Raises Fault where it can't be read."""
         path, read, cutter, stored = self._path, self.read, self._cutter, self.read.stored
-        hasher, plain = hashlib.sha256(), hashlib.sha256()
+        hasher = hashlib.sha256()
         if read.damaged and read.damaged[0][0] < given:
             raise Fault(f"ssign inspect reports damage of {shown_name(path)} where frames were read")
         with open_file(path) as file:
             refuse_changed(path, file, stored)
             try:
                 for octets in gathered(plain_pieces(path, hashed(path, file, hasher), most_of(stored, self._how))):
-                    plain.update(octets)
-                    read.plain_size += len(octets)
                     whole = cutter.take(octets)
                     before, read.messages = read.messages, read.messages + whole.messages
                     if given <= before:
@@ -192,7 +187,7 @@ class Passage:
                 read.octet, read.why = cutter.offset, fault.cause
             for _ in hashed(path, file, hasher):
                 pass
-            read.sha256, read.plain_sha256 = hasher.hexdigest(), plain.hexdigest()
+            read.sha256 = hasher.hexdigest()
             refuse_changed(path, file, stored)
             if look(path) != stored:
                 raise changed(path)

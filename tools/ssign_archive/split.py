@@ -27,7 +27,7 @@ from .join import how_of
 from .messages import each_message
 from .parts import Parts, name_of
 from .sources import Read, Reader
-from .tree import files_of, look
+from .folder import files_of, look
 
 # RFC 5424, section 6.2: HOSTNAME is the third word
 HOST = 2
@@ -181,7 +181,7 @@ class Split:
         print_text("".join(f"{line}\n" for line in self._lines()))
         found = file_findings(".", self._read)
         for it in found:
-            notify(f"ssign-archive: {it.text()}")
+            notify(f"ssign-archive: {it}")
         if any(it.octet is not None and it.why != "torn" for it in self._read):
             return 2
         return 1 if self._misplaced.count or found else 0
@@ -203,4 +203,4 @@ class Split:
 
     def _where(self, place: int) -> str:
         """A place of the log, with its file."""
-        return f"place {place} ({Places('.', self._read).at(place).text()})"
+        return f"place {place} ({Places('.', self._read).at(place)})"

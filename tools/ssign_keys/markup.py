@@ -2,9 +2,7 @@
 from __future__ import annotations
 
 import html
-import os
 from typing import Dict, Iterable, Union
-from urllib.parse import quote
 
 from .words import is_seen
 
@@ -63,11 +61,6 @@ def drawn(name: str, attributes: Dict[str, str]) -> Markup:
 def named(text: str) -> Markup:
     """A name or a text of a stranger, which doesn't turn the direction of what stands beside it."""
     return plain("bdi", text)
-
-
-def link(path: str, *children: Child) -> Markup:
-    """A link to a file beside the page, which is named from the page on. No octet of it is taken for a part of an address."""
-    return element("a", {"href": quote(os.fsencode(path), safe="/")}, *children)
 
 
 def swatch(kind: str) -> Markup:

@@ -46,23 +46,34 @@ class Taken:
         self._other: List[str] = []
         """The names of files that were made with other keys or programs, of which nothing is taken."""
         self._edited: Dict[str, Finding] = {}
-        made = []
-        for name in sorted(it for it in os.listdir(folder) if it.endswith(ENDING)):
-            lines = Lines(os.path.join(folder, name))
-            if lines.fault is None and lines.rows and lines.rows[0]["kind"] != "part":
-                lines.fault = "its first line isn't that of a task"
-            if lines.fault is not None:
-                text = f"{lines.fault}, and nothing of it is taken: it may be removed"
-                self._edited[lines.path] = Finding(f"{PLACE}/{shown_name(name)}", "edited", lines.fact, text)
-            elif lines.rows and tuple(lines.rows[0]["of"]) != of:
-                self._other.append(name)
-            else:
-                self._paths.append(lines.path)
-                made.append(lines.rows)
+        made = [self._read(folder, name, of) for name in sorted(os.listdir(folder)) if name.endswith(ENDING)]
         self.faults += self._edited.values()
         # of two tasks that saw the same file, the first one counts
         for rows in sorted(filter(None, made), key=lambda it: (it[0]["time"], it[0]["part"])):
             self._take(rows)
+
+    def _read(self, folder: str, name: str, of: Tuple[str, str, str]) -> List[Row]:
+        """The lines of a file of which something may be taken."""
+        path = os.path.join(folder, name)
+        try:
+            lines = Lines(path)
+        except Fault:
+            if os.path.lexists(path):
+                raise
+            # a check ended meanwhile, and a task has no lock
+            return []
+        fault = lines.fault
+        if fault is None and lines.rows and lines.rows[0]["kind"] != "part":
+            fault = "its first line isn't that of a task"
+        if fault is not None:
+            text = f"{fault}, and nothing of it is taken: it may be removed"
+            self._edited[path] = Finding(f"{PLACE}/{shown_name(name)}", "edited", lines.fact or lines.mark, text)
+        elif lines.rows and tuple(lines.rows[0]["of"]) != of:
+            self._other.append(name)
+        else:
+            self._paths.append(path)
+            return lines.rows
+        return []
 
     def _take(self, rows: List[Row]) -> None:
         """Takes the lines of a task. What nothing follows doesn't count."""
