@@ -2,7 +2,6 @@
 
 An older Python reads this file too, so it has to be written for one.
 """
-import os
 import sys
 
 OLDEST = (3, 9)
