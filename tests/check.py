@@ -247,7 +247,8 @@ def rows(made, base):
     row("the beat is deleted", rm(BEAT), f"alpha/{BEAT} missing")
     row("the file of late lines is deleted", rm("m-06.log.late-1.frames"), "alpha/m-06.log.late-1.frames missing")
     row("a night has a hidden name", rename(night(5), f".{night(5)}"), f"alpha/{night(5)} missing")
-    row("a night has another ending", rename(night(4), f"{night(4)}.bak"), f"alpha/{night(4)} missing")
+    row("a night has another ending, which makes it a log", rename(night(4), f"{night(4)}.bak"),
+        [f"alpha/{night(4)} missing", f"alpha/{night(4)}.bak unsigned"])
     row("a night lies in a folder below", both(lambda logs: os.mkdir(f"{logs}/alpha/old"), rename(night(4), f"old/{night(4)}")),
         f"alpha/{night(4)} missing")
     row("a night lies in the folder of another originator",
@@ -432,6 +433,8 @@ def rows(made, base):
     row("lines are added to a log today", add("m-10.log", world.lines_of(10) + b"late\n", NOW - 60))
     row("an old log has no signed file", add("m-08b.log", b"old\n", NOW - 2 * DAY), "alpha/m-08b.log unsigned")
     row("a new log has no signed file yet", add("m-11.log", b"new\n", NOW - 60))
+    row("the name of an old log without a signed file has the ending of one in it", add("q.frames.log", b"old\n", NOW - 2 * DAY),
+        "alpha/q.frames.log unsigned")
     row("an old log is empty", add("m-08b.log", b"", NOW - 2 * DAY))
     row("the log is removed", rm("m-09.log"))
     row("the log is compressed", pack("m-09.log"))

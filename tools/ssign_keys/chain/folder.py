@@ -4,7 +4,6 @@ from __future__ import annotations
 import contextlib
 import errno
 import fcntl
-import fnmatch
 import os
 import stat
 from dataclasses import dataclass, field
@@ -16,14 +15,11 @@ from ..store import open_folder
 from ..words import shown_name
 from ..workplace import Workplace
 from .link import Link, Log
-from .reading import PACKED, First, bare, digests, first_of, open_in, plain_pieces
+from .names import NEW, PACKED, SIGNED, bare, few, is_log, is_signed
+from .reading import First, digests, first_of, open_in, plain_pieces
 
-FRAMES, ASIDE, NEW = ".frames", ".set-aside", ".new"
-MATCH = ("*.log*",)
 # what stands between a name and what logrotate adds to it
 BETWEEN = "-._"
-# how many files a sentence names
-NAMED = 5
 
 
 class Busy(Exception):
@@ -152,19 +148,12 @@ class Folder:
 
     def frames(self) -> List[str]:
         """The names of signed files."""
-        return sorted(it for it in self.entries if bare(it).endswith(FRAMES) and not it.startswith("."))
+        return sorted(filter(is_signed, self.entries))
 
     def logs(self, globs: Sequence[str]) -> List[str]:
         """The names of logs, the one first that was changed first. A folder is none."""
         found = [it for it, seen in self.entries.items() if is_log(it, globs) and not stat.S_ISDIR(seen.st_mode)]
         return sorted(found, key=lambda it: (self.entries[it].st_mtime_ns, it))
-
-
-def is_log(name: str, globs: Sequence[str]) -> bool:
-    """Whether a file of this name is a log that is to be signed."""
-    if name.startswith(".") or name.endswith(NEW) or bare(name).endswith((FRAMES, ASIDE)):
-        return False
-    return any(fnmatch.fnmatchcase(it, glob) for it in (name, bare(name)) for glob in globs)
 
 
 class Chain:
@@ -181,7 +170,7 @@ class Chain:
             first = first_of(folder.number, name, workplace)
             if first is None:
                 self.unlinked.append(name)
-                self.known.unread.add(bare(name)[:-len(FRAMES)])
+                self.known.unread.add(bare(name)[:-len(SIGNED)])
             else:
                 self.files.append(Signed(name, first))
         self.files.sort(key=lambda it: (it.link.rsid, it.name))
@@ -210,12 +199,12 @@ class Chain:
         followed.update(bare(it.name) for it in self.files)
         unlinked = [it for it in self.unlinked if bare(it) not in followed]
         if unlinked:
-            raise Fault(f"{names_of(unlinked)} in {self._folder.name}: no link can be read in it, and no file names it as the "
+            raise Fault(f"{few(unlinked)} in {self._folder.name}: no link can be read in it, and no file names it as the "
                         "one before, so nobody knows whether it is the newest: put a good copy in its place, or move it into "
                         "another folder")
         ends = self._unnamed(present)
         if len(ends) > 1:
-            heads = " or ".join(shown_name(it.name) for it in ends[:NAMED])
+            heads = few([it.name for it in ends])
             raise Fault(f"the chain of {self._folder.name} forks: no file names {heads} as the one before, as where a machine "
                         "was put back, or two of them sign with one key. Move the one into another folder that should not be "
                         "there; or --begin begins a chain after both")
@@ -249,9 +238,3 @@ class Chain:
         """The SHA-256 of a signed file, expanded."""
         with open_in(self._folder.number, name) as file:
             return digests(plain_pieces(file, name, self._workplace)).sha256
-
-
-def names_of(names: Sequence[str]) -> str:
-    """Some names, for a sentence."""
-    more = f" and {len(names) - NAMED} more" if len(names) > NAMED else ""
-    return ", ".join(shown_name(it) for it in names[:NAMED]) + more

@@ -9,8 +9,8 @@ from ..defaults import machine_name
 from ..faults import Fault
 from ..known_sessions import SESSION
 from ..programs import find_program
-from .folder import MATCH
 from .lines import Names
+from .names import MATCH
 
 DAY = 86400
 APP = "ssign"

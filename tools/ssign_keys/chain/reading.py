@@ -12,10 +12,8 @@ from ..frames import frame_at
 from ..words import shown_name
 from ..workplace import Workplace
 from .link import MSGID, Link, read
+from .names import BZIP2, bare
 
-# what a compression adds to the name of a file
-BZIP2 = ".bz2"
-PACKED = (".gz", BZIP2, ".xz", ".zst")
 # in so many first octets of a signed file the message of its link stands, after the certificate blocks
 HEAD = 1 << 18
 FIRST_PIECE = 1 << 14
@@ -40,11 +38,6 @@ class First(NamedTuple):
     link: Link
     place: int
     """How many certificate blocks stand before it."""
-
-
-def bare(name: str) -> str:
-    """The name of a file without what a compression adds."""
-    return next((name[:-len(it)] for it in PACKED if name.endswith(it) and len(name) > len(it)), name)
 
 
 def open_in(folder: int, name: str) -> BinaryIO:

@@ -21,7 +21,8 @@ from ..workplace import Workplace, finish, notify, put
 from .folder import Busy, Chain, Folder, Signed, Whole
 from .link import Before, Log
 from .options import Options, options_of
-from .reading import bare, digests, open_in, plain_pieces
+from .names import bare
+from .reading import digests, open_in, plain_pieces
 from .seen import Seen
 from .to_sign import Finder, Part
 from .verifying import Verifier

@@ -16,9 +16,10 @@ from ..files import NOT_REGULAR, reason
 from ..open_files import Writers
 from ..words import counted, shown_name
 from ..workplace import Workplace
-from .folder import FRAMES, Folder, Known, Whole
+from .folder import Folder, Known, Whole
 from .link import Log
-from .reading import Digests, bare, digests, open_in, plain_pieces
+from .names import SIGNED, bare
+from .reading import Digests, digests, open_in, plain_pieces
 from .seen import Seen
 
 DAY = 86400
@@ -163,7 +164,7 @@ class Finder:
         elif own is not None and Whole(own.end, own.sha256) not in self._claimed:
             self.notes.troubles.append(changed(log, own))
         elif own is None and name in self._known.unread:
-            self.trouble(log, f"no link can be read in {shown_name(name + FRAMES)}: put a good copy of it in its place, or "
+            self.trouble(log, f"no link can be read in {shown_name(name + SIGNED)}: put a good copy of it in its place, or "
                               "move it into another folder")
         elif state.whole.end and not state.is_cut:
             yield Part(log, 0, name)

@@ -28,9 +28,10 @@ from ..schemes import scheme_for
 from ..sign import seal, write
 from ..words import shown_name
 from ..workplace import Workplace, finish, put
-from .folder import ASIDE, FRAMES, NEW, Folder, Signed
+from .folder import Folder, Signed
 from .lines import READING, Names, Sorted, Sorter
 from .link import MSGID, Aside, Before, Link, Log, spell
+from .names import ASIDE, NEW, SIGNED
 from .reading import HEAD, First, digests, first_in, open_in
 from .verifying import Verifier
 
@@ -85,7 +86,7 @@ class Writer:
             link = Link(rsid, before, source and source.log._replace(empty=found.empty),
                         Aside(name + ASIDE, found.aside, found.aside_sha256) if found.aside else None)
             mode = READABLE if source is None else source.mode & READABLE | OPEN
-            with self._draft(name + FRAMES, mode) as draft, self._draft(name + ASIDE, mode) as kept:
+            with self._draft(name + SIGNED, mode) as draft, self._draft(name + ASIDE, mode) as kept:
                 shutil.copyfileobj(rewound(aside), kept)
                 sync(kept)
                 first = self._sign(link, lines, draft)
@@ -94,15 +95,15 @@ class Writer:
                 # both have their names, or the signed file has none: it names the other one
                 if found.aside:
                     self._name(name + ASIDE, found.aside_sha256)
-                self._name(name + FRAMES)
+                self._name(name + SIGNED)
                 os.fsync(self._folder.number)
-        return Made(Signed(name + FRAMES, first), sha256, found)
+        return Made(Signed(name + SIGNED, first), sha256, found)
 
     def _free_name(self, name: Optional[str], source: Optional[Source], rsid: int) -> str:
         """The name of a signed file; one with its RSID where another log has had the name before, or where it is a beat."""
         if name is None or source is None:
             return f"beat-{rsid}"
-        return f"{source.log.name}.{rsid}" if self._folder.has_signed(name + FRAMES) else name
+        return f"{source.log.name}.{rsid}" if self._folder.has_signed(name + SIGNED) else name
 
     @contextlib.contextmanager
     def _draft(self, name: str, mode: int) -> Iterator[BinaryIO]:

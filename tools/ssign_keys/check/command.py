@@ -5,6 +5,7 @@ import argparse
 import os
 from typing import Dict, List, Optional, Tuple
 
+from ..chain.names import few
 from ..faults import Fault
 from ..output import write_out
 from ..page_file import PageFile
@@ -14,7 +15,7 @@ from ..workplace import Workplace, finish
 from . import options as check_options
 from .accept import accept, doubted_in, is_held, lapses
 from .files import Reader, find_folders
-from .findings import Finding, few, find
+from .findings import Finding, find
 from .keys import Judges, make_judges
 from .memory import Memory, file_place, now
 from .options import Options, read_options

@@ -1,25 +1,21 @@
 """What lies in the folder of an originator: signed files, logs, and files of messages that were set aside. And their octets."""
 from __future__ import annotations
 
-import fnmatch
 import hashlib
 import os
 import stat
 from typing import Dict, List, NamedTuple, Optional, Sequence, Tuple
 
+from ..chain.names import ASIDE, PACKED, bare, is_log, is_signed, is_stamp
 from ..expand import FRONT, form_of
 from ..faults import Fault
 from ..files import open_regular, reason
 from ..logs import Log, open_log
 from ..progress import Progress
-from ..stamped import ENDING
 from ..words import shown_name
 from ..workplace import Workplace
 from .record import Stat
 
-SIGNED, ASIDE, PASSING = ".frames", ".set-aside", ".new"
-# what a compression adds to a name, and the form that such a file has; None where it isn't read
-PACKED: Dict[str, Optional[str]] = {".gz": "gzip", ".xz": "xz", ".zst": "zstd", ".bz2": None}
 PIECE = 1 << 20
 
 
@@ -56,16 +52,6 @@ class Folder(NamedTuple):
     """Time stamps of signed files."""
 
 
-def bare_name(name: str) -> str:
-    """A name without what a compression adds."""
-    return next((name[:-len(it)] for it in PACKED if name.endswith(it)), name)
-
-
-def is_signed_name(name: str) -> bool:
-    """Whether a file of this name is a signed file."""
-    return not name.startswith(".") and bare_name(name).endswith(SIGNED)
-
-
 def look(folder: str, patterns: Sequence[str]) -> Folder:
     """Looks into a folder. Raises OSError. Files of other names, and those that begin with a dot, are no concern of a check."""
     signed, asides, logs, stamps = [], {}, [], []
@@ -75,25 +61,18 @@ def look(folder: str, patterns: Sequence[str]) -> Folder:
         except FileNotFoundError:
             # it was renamed or compressed meanwhile, and has its new name
             continue
-        bare = bare_name(name)
+        plain = bare(name)
         facts = (seen.st_size, seen.st_mtime_ns, seen.st_ctime_ns, seen.st_ino, seen.st_mode)
-        it = Lying(name, bare, os.path.join(folder, name), facts, int(seen.st_mtime))
-        if bare.endswith(SIGNED):
+        it = Lying(name, plain, os.path.join(folder, name), facts, int(seen.st_mtime))
+        if is_signed(name):
             signed.append(it)
-        elif name.endswith(ENDING) and is_signed_name(name[:-len(ENDING)]):
+        elif is_stamp(name):
             stamps.append(it)
-        elif bare.endswith(ASIDE):
-            asides[bare] = it
-        elif stat.S_ISREG(seen.st_mode) and is_log_name(name, patterns):
+        elif plain.endswith(ASIDE):
+            asides[plain] = it
+        elif stat.S_ISREG(seen.st_mode) and is_log(name, patterns):
             logs.append(it)
     return Folder(signed, asides, logs, stamps)
-
-
-def is_log_name(name: str, patterns: Sequence[str]) -> bool:
-    """Whether a file of this name is a log that has to be signed."""
-    if SIGNED in name or name.endswith(PASSING):
-        return False
-    return any(fnmatch.fnmatchcase(it, pattern) for it in (name, bare_name(name)) for pattern in patterns)
 
 
 class Reader:
@@ -193,7 +172,7 @@ def originators_in(folder: str) -> List[str]:
     except OSError:
         # whether somebody knows it, the memory says
         return [folder]
-    inner = sorted(name for name, is_folder in found if is_folder and not name.startswith(".") and not is_signed_name(name))
-    if not inner or any(is_signed_name(name) for name, _ in found):
+    inner = sorted(name for name, is_folder in found if is_folder and not name.startswith(".") and not is_signed(name))
+    if not inner or any(is_signed(name) for name, _ in found):
         return [folder]
     return [os.path.join(folder, name) for name in inner]

@@ -77,9 +77,3 @@ def find(kind: str, fact: str, text: str, originator: str, file: str = "") -> Fi
 def in_order(found: List[Finding]) -> List[Finding]:
     """The gravest first."""
     return sorted(found, key=lambda it: (RANKS[it.kind], it.place))
-
-
-def few(names: List[str]) -> str:
-    """Names of files, of which a few are shown."""
-    shown = [shown_name(it) for it in names]
-    return ", ".join(shown) if len(shown) <= 4 else f"{shown[0]}, {shown[1]} .. {shown[-1]}"

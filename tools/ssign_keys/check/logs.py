@@ -4,8 +4,9 @@ from __future__ import annotations
 from typing import Dict, List, NamedTuple, Optional, Sequence, Set, Tuple
 
 from ..chain.link import Link
+from ..chain.names import SIGNED
 from ..words import grouped
-from .files import SIGNED, Folder, Lying, Reader, Unread
+from .files import Folder, Lying, Reader, Unread
 from .findings import Finding, find
 from .lines import Row
 from .options import TURNS

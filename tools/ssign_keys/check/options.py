@@ -9,6 +9,7 @@ from typing import Optional, Tuple
 
 from .. import expand as expand_options
 from .. import stamped
+from ..chain.names import MATCH
 from ..faults import Fault
 from ..numbers import MOST_JOBS, number
 from ..programs import add_program_argument, find_program
@@ -22,7 +23,6 @@ SPAN = re.compile(r"([0-9]{1,6})([hd])")
 HOURS = {"h": 1, "d": 24}
 # a log waits for its signed file for so many seconds, where no option names a time
 LATE = 26 * 3600
-MATCH = ("*.log*",)
 
 
 @dataclass(frozen=True)

@@ -4,8 +4,9 @@ from __future__ import annotations
 from dataclasses import dataclass, field
 from typing import Callable, Dict, Iterator, List, NamedTuple, Optional, Set, Tuple
 
+from ..chain.names import SIGNED
 from ..words import grouped, shown_name
-from .files import SIGNED, Folder, Lying, Reader, Unread, look
+from .files import Folder, Lying, Reader, Unread, look
 from .findings import Finding, find
 from .keys import FIRST, Judges
 from .lines import Row

@@ -8,6 +8,7 @@ import os
 from typing import Any, Callable, Dict, Iterable, List, NamedTuple, Optional, Protocol, Sequence, Set, Tuple
 
 from ..chain.link import Link
+from ..chain.names import bare
 from ..chain.reading import first_of
 from ..commands import BUDGET, Missing
 from ..faults import Fault
@@ -16,7 +17,7 @@ from ..stamped import ENDING, read_stamp
 from ..store import open_folder
 from ..words import grouped, shown_name
 from ..workplace import Workplace
-from .files import Lying, bare_name, raw_sha256
+from .files import Lying, raw_sha256
 from .findings import Finding, find
 from .lines import Row
 from .record import Record, digest
@@ -133,9 +134,9 @@ class Stamps:
             by_name[file.lying.name] = file
         for it in stamps:
             name = it.name[:-len(ENDING)]
-            found = by_name.get(name) or by_name.get(bare_name(name))
+            found = by_name.get(name) or by_name.get(bare(name))
             if found is None:
-                self._lone[it.name] = bare_name(name)
+                self._lone[it.name] = bare(name)
             else:
                 self._read_one(it, found, self._checker, is_due)
 

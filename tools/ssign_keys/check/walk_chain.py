@@ -8,8 +8,9 @@ from dataclasses import dataclass, field
 from typing import Container, Dict, Iterable, Iterator, List, NamedTuple, Optional, Set, Tuple
 
 from ..chain.link import Link
+from ..chain.names import few
 from ..words import shown_line
-from .findings import Finding, few, find
+from .findings import Finding, find
 from .record import digest
 
 
