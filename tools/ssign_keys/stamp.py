@@ -12,7 +12,8 @@ import stat
 from typing import Callable, NamedTuple, Optional
 
 from .chain.folder import Busy, Chain, Folder
-from .chain.reading import bare, digests, open_in, plain_pieces
+from .chain.names import bare
+from .chain.reading import digests, open_in, plain_pieces
 from .commands import ask
 from .digests import sum_of
 from .faults import Fault

@@ -4,9 +4,10 @@ from __future__ import annotations
 import hashlib
 import os
 import stat
-from typing import Dict, List, NamedTuple, Optional, Sequence, Tuple
+from typing import Dict, Iterator, List, NamedTuple, Optional, Sequence
 
 from ..chain.names import ASIDE, PACKED, bare, is_log, is_signed, is_stamp
+from ..chain.reading import Digests, digests
 from ..expand import FRONT, form_of
 from ..faults import Fault
 from ..files import open_regular, reason
@@ -86,17 +87,17 @@ class Reader:
 
     def sha256(self, it: Lying) -> str:
         """The SHA-256 of the octets of a file, expanded. Raises Unread."""
-        return self.sums(it, [])[1][-1]
+        return self.digests(it, []).sha256
 
-    def sums(self, it: Lying, ends: Sequence[int]) -> Tuple[int, List[str]]:
-        """How many octets a file has, expanded, and the SHA-256 up to each of these rising ends that it reaches, and of all."""
+    def digests(self, it: Lying, ends: Sequence[int]) -> Digests:
+        """The SHA-256 of a file, expanded, and up to each of these ends that it reaches. Raises Unread."""
         refuse_odd(it)
         self._count += 1
         self._progress.show("reading files", self._count, 0, "files")
         try:
             log = open_log([it.path], False, self.workplace, self._progress, self._max_expanded)
             with log.file:
-                return log.size, sums_of(log, ends)
+                return digests(pieces_of(log), ends)
         except (Fault, OSError) as fault:
             why = reason(fault) if isinstance(fault, OSError) else str(fault)
             raise Unread(why, raw_sha256(it.path) or why) from fault
@@ -123,19 +124,16 @@ def refuse_odd(it: Lying) -> None:
         raise Unread(f"its name ends with {ending}, and {what}", raw_sha256(it.path))
 
 
-def sums_of(log: Log, ends: Sequence[int]) -> List[str]:
-    """The SHA-256 of the octets up to each end that isn't after the last octet, and of all. Each octet is read once."""
-    hasher, at, found = hashlib.sha256(), 0, []
-    for end in [*(it for it in ends if it <= log.size), log.size]:
-        while at < end:
-            piece = os.pread(log.file.fileno(), min(PIECE, end - at), at)
-            if not piece:
-                raise log.changed()
-            hasher.update(piece)
-            at += len(piece)
-        found.append(hasher.hexdigest())
+def pieces_of(log: Log) -> Iterator[bytes]:
+    """The octets of a log, which has to stay as it is meanwhile."""
+    at = 0
+    while at < log.size:
+        piece = os.pread(log.file.fileno(), min(PIECE, log.size - at), at)
+        if not piece:
+            raise log.changed()
+        yield piece
+        at += len(piece)
     log.check_unchanged()
-    return found
 
 
 def raw_sha256(path: str) -> str:

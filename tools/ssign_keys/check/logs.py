@@ -103,17 +103,17 @@ class Logs:
                 all(str(end) in kept["sums"] for end in ends if end <= kept["size"]):
             return Sums(kept["size"], {int(end): sha256 for end, sha256 in kept["sums"].items()}, kept["sha256"], kept["since"])
         try:
-            size, sums = self._reader.sums(it, ends)
+            found = self._reader.digests(it, ends)
         except Unread as fault:
             self._find("unreadable", fault.fact, fault.why, it)
             return None
-        up_to = dict(zip(ends, sums[:-1]))
-        since = kept["since"] if kept is not None and kept["sha256"] == sums[-1] else self._now
-        row: Row = {"kind": "log", "name": it.name, "stat": list(it.stat), "size": size,
-                    "sums": {str(end): sha256 for end, sha256 in up_to.items()}, "sha256": sums[-1], "since": since}
+        since = kept["since"] if kept is not None and kept["sha256"] == found.sha256 else self._now
+        row: Row = {"kind": "log", "name": it.name, "stat": list(it.stat), "size": found.size,
+                    "sums": {str(end): sha256 for end, sha256 in sorted(found.fronts.items())}, "sha256": found.sha256,
+                    "since": since}
         if kept is None or any(kept[name] != value for name, value in row.items()):
             self._record.put(row)
-        return Sums(size, up_to, sums[-1], since)
+        return Sums(found.size, found.fronts, found.sha256, since)
 
     def check_asides(self, links: Sequence[Tuple[str, Link]], folder: Folder) -> None:
         """Compares each file of messages that were set aside with the link that names it. The files of the links are here."""

@@ -11,11 +11,12 @@ from dataclasses import dataclass, field
 from typing import Callable, Dict, List, Set, Tuple
 
 from .. import cli
+from ..chain.names import few
 from ..faults import Fault
 from ..files import reason
 from ..usage import complain
 from ..words import grouped, shown_name
-from .findings import Finding, few
+from .findings import Finding
 from .lines import Lines, Row
 from .memory import PLACE
 from .record import Record, file_of
