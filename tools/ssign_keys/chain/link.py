@@ -76,6 +76,25 @@ def read(text: str) -> Optional[Link]:
     return link if is_link(link) and spell(link) == text else None
 
 
+class Stated(NamedTuple):
+    """A message that spells a link."""
+
+    names: bytes
+    """HOSTNAME, APP-NAME and PROCID, with a space between two."""
+    text: str
+    link: Link
+
+
+def stated_in(message: bytes) -> Optional[Stated]:
+    """What a message says, where it is a chain message; else None."""
+    fields = message.split(b" ", 7)
+    if len(fields) < 8 or fields[5:7] != [MSGID.encode("ascii"), b"-"]:
+        return None
+    text = fields[7].decode("ascii", "replace")
+    link = read(text)
+    return None if link is None else Stated(b" ".join(fields[2:5]), text, link)
+
+
 def part(kind: Callable[..., Part], fields: Optional[Dict[str, object]]) -> Optional[Part]:
     """A part of a link, or None where it has none. Raises TypeError where its names are others."""
     return None if fields is None else kind(**fields)

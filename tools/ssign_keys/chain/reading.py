@@ -11,7 +11,7 @@ from ..files import open_regular, reason
 from ..frames import frame_at
 from ..words import shown_name
 from ..workplace import Workplace
-from .link import MSGID, Link, read
+from .link import Link, stated_in
 from .names import BZIP2, bare
 
 # in so many first octets of a signed file the message of its link stands, after the certificate blocks
@@ -117,16 +117,6 @@ def first_in(head: bytes) -> Optional[First]:
         message = head[start:start + length]
         fields = message.split(b" ", 7)
         if len(fields) < 8 or not fields[6].startswith(CERTIFICATE):
-            return as_first(message, fields, place)
+            stated = stated_in(message)
+            return None if stated is None else First(message, stated.names, stated.link, place)
         at, place = start + length, place + 1
-
-
-def as_first(message: bytes, fields: Sequence[bytes], place: int) -> Optional[First]:
-    """A message with what its link says; None where it spells none."""
-    if len(fields) < 8 or fields[5:7] != [MSGID.encode(), b"-"]:
-        return None
-    try:
-        link = read(fields[7].decode("ascii"))
-    except UnicodeDecodeError:
-        return None
-    return None if link is None else First(message, b" ".join(fields[2:5]), link, place)

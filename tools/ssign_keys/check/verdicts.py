@@ -8,8 +8,7 @@ import os
 from typing import Any, Dict, Iterator, List, NamedTuple, Optional, Sequence, Tuple
 
 from ..blocks import Session
-from ..chain.link import MSGID
-from ..chain.link import read as read_link
+from ..chain.link import stated_in
 from ..commands import BUDGET
 from ..defaults import longest
 from ..faults import Fault
@@ -81,12 +80,9 @@ class Firsts(ReportVisitor):
 
 def link_in(message: bytes, session: Session) -> Optional[str]:
     """The text of the chain message of a session, or None where this isn't that."""
-    head = message.split(b" ", 7)
-    if len(head) != 8 or head[2:7] != [session.host, session.app, session.procid, MSGID.encode("ascii"), b"-"]:
-        return None
-    text = head[7].decode("ascii", "replace")
-    found = read_link(text)
-    return text if found is not None and found.rsid == int(session.rsid) else None
+    found = stated_in(message)
+    is_own = found is not None and (found.names, found.link.rsid) == (b" ".join(session[:3]), int(session.rsid))
+    return found.text if found is not None and is_own else None
 
 
 def judge(judges: Judges, work: Work) -> Dict[str, Any]:
