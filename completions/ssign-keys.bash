@@ -27,6 +27,7 @@ _ssign_keys() {
         return
     fi
     if ((COMP_CWORD == 1)); then
+        _ssign_keys_offer words 'make sign live verify check alarm manifest stamp seal answer explain help --help --version'
         return
     fi
     ((COMP_CWORD > 3)) && second=${COMP_WORDS[COMP_CWORD - 2]}
@@ -208,7 +209,7 @@ _ssign_keys_words() {
         ;;
     check)
         if [[ $2 == -* ]]; then
-            _ssign_keys_offer words '--help --memory --accept --why --expect --keep --read --status --head --key --ca --trust --allow-sha1 --max-expanded --match --begin --json --jobs --part --ssign'
+            _ssign_keys_offer words '--help --memory --accept --why --expect --keep --read --status --head --key --ca --trust --allow-sha1 --tsa-ca --tsa-ca-anchor --max-expanded --match --begin --json --html --jobs --part --ssign'
         else
             _ssign_keys_offer folders
         fi
@@ -255,6 +256,7 @@ _ssign_keys_words() {
             _ssign_keys_offer codes
         fi
         ;;
+    help) _ssign_keys_offer words 'make sign live verify check alarm manifest stamp seal answer explain' ;;
     esac
 }
 
