@@ -193,9 +193,9 @@ if python3 -c 'import cryptography' 2>"$scratch/err"; then
     done
     explained --json
     holds 'ssign-keys explain --json begins as that of ssign' cmp -- <(head -n "$(wc -l <"$scratch/all")" "$scratch/out") "$scratch/all"
-    words=$(tail -n +"$(($(wc -l <"$scratch/all") + 12))" "$scratch/out" | sed -E 's/.*"code":"([^"]*)".*/\1/' | tr '\n' ,)
+    of_verdict=$(tail -n +"$(($(wc -l <"$scratch/all") + 12))" "$scratch/out" | sed -E 's/.*"code":"([^"]*)".*/\1/' | tr '\n' ,)
     holds 'its own codes follow, and the words of a verdict that no report has' \
-        test "$words" = 'gone,changed or replaced,missing up to the counters,unproved,missing blocks,out of order,manifest,not joined,SHA-1,strangers,'
+        test "$of_verdict" = 'gone,changed or replaced,missing up to the counters,unproved,missing blocks,out of order,manifest,not joined,SHA-1,strangers,'
     explained out of order
     expect 'ssign-keys explain out of order' 0 "Of a group that is out of order: listed messages don't stand in the order of their numbers." ''
     explained Unproved
