@@ -44,7 +44,7 @@ class Shared(Bench):
         self._count()
 
     def _count(self):
-        judge, sums = verdicts.Pool.judge, files.Reader.sums
+        judge, taken = verdicts.Pool.judge, files.Reader.digests
 
         def note(kind, name):
             with open(f"{self.top}/{kind}", "a", encoding="utf-8") as file:
@@ -57,9 +57,9 @@ class Shared(Bench):
 
         def summed(reader, it, ends):
             note("read", it.name)
-            return sums(reader, it, ends)
+            return taken(reader, it, ends)
 
-        verdicts.Pool.judge, files.Reader.sums = judged, summed
+        verdicts.Pool.judge, files.Reader.digests = judged, summed
 
     def work(self):
         """The names of the files that were verified, and of those that were read, since this was asked last. No logs."""
