@@ -197,8 +197,7 @@ class Made:
             lines = lines if lines is not None else world.lines_of(number)
             log = log or f"m-{number:02}.log"
             if text is None:
-                part = {"name": log, "start": 0, "end": len(lines), "sha256": world.sha256(lines), "empty": 0}
-                text = world.chain_message(rsid, world.link_text(rsid, before, part), host)
+                text = world.chain_message(rsid, world.link_text(rsid, before, world.log_part(log, 0, lines, rsid)), host)
             self._kept[key] = it.octets(rsid, text + lines)
         return self._kept[key]
 
@@ -428,6 +427,19 @@ def rows(made, base):
         "alpha/m-09.log log")
     row("a log is cut", edit("m-09.log", lambda it: it[:-40]), "alpha/m-09.log log", words="were signed")
     row("a log is emptied", edit("m-09.log", lambda it: b""), "alpha/m-09.log log")
+    row("a new log has the name of a signed one, and is empty", add("m-09.log", b"", NOW - 60))
+    row("a new log has the name of a signed one", add("m-09.log", b"new\n", NOW - 60))
+    dated = add("m.log-20300111.frames", made.alpha_file(11, at[10], log="m.log-20300111"))
+    row("a log with a date in its name is emptied", both(dated, add("m.log-20300111", b"", NOW - 60)), "alpha/m.log-20300111 log",
+        acts=ACCEPT)
+    row("a log with a date in its name is changed today", both(dated, add("m.log-20300111", b"new\n", NOW - 60)),
+        "alpha/m.log-20300111 log", acts=ACCEPT)
+    row("an old log has the octets of a signed one", add("m-09b.log", world.lines_of(9), NOW - 2 * DAY), "alpha/m-09b.log unsigned")
+    row("a compressed log lies beside a signed one of its name, with other octets", add("m-09.log.gz", gzip.compress(b"other\n"),
+        NOW - 2 * DAY), "alpha/m-09.log log")
+    row("a log was signed twice", add("m-09.log.2.frames", made.alpha_file(11, at[10], world.lines_of(9), log="m-09.log")), acts=set())
+    row("two logs of the same octets were signed", both(add("m-09b.log.frames", made.alpha_file(11, at[10], world.lines_of(9), log="m-09b.log")),
+        add("m-09b.log", world.lines_of(9), NOW - 2 * DAY)), acts=set())
     row("lines are added to a log that is signed", edit("m-09.log", lambda it: it + b"late\n"), "alpha/m-09.log unsigned",
         words="its last 5 octets have no signed file")
     row("lines are added to a log today", add("m-10.log", world.lines_of(10) + b"late\n", NOW - 60))

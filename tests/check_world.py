@@ -90,6 +90,11 @@ def link_text(rsid, before=None, log=None, aside=None):
     return json.dumps(fields, sort_keys=True, separators=(",", ":"))
 
 
+def log_part(name, start, octets, changed):
+    """What a link says about a log; `octets` are all up to its end."""
+    return {"name": name, "start": start, "end": len(octets), "sha256": sha256(octets), "empty": 0, "changed": changed}
+
+
 def chain_message(rsid, text, host="alpha", procid="-"):
     stamp = time.strftime("%Y-%m-%dT%H:%M:%SZ", time.gmtime(rsid))
     return f"<110>1 {stamp} {host} ssign {procid} chain - {text}\n".encode()
@@ -127,9 +132,7 @@ class Signer:
 
     def make(self, rsid, lines, log=None, aside=None, before=Ellipsis):
         """The octets of a signed file that names the one before; `log` is (name, start, all octets up to its end)."""
-        part = None
-        if log is not None:
-            part = {"name": log[0], "start": log[1], "end": len(log[2]), "sha256": sha256(log[2]), "empty": 0}
+        part = None if log is None else log_part(log[0], log[1], log[2], rsid)
         text = self.link(rsid, part, aside, before)
         return self.octets(rsid, chain_message(rsid, text, self.host) + lines)
 

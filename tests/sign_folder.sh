@@ -9,7 +9,7 @@ if ! python3 -c 'import cryptography' 2>"$scratch/err"; then
     holds 'ssign-keys is there' test -x "$root/tools/ssign-keys"
     finish
 fi
-for part in sign_folder sign_folder_kills sign_folder_many sign_folder_logrotate; do
+for part in sign_folder sign_folder_names sign_folder_kills sign_folder_many sign_folder_logrotate; do
     python3 -B "$root/tests/$part.py" "$root/tools" "$program" >"$scratch/out" 2>&1
     status=$?
     cat -- "$scratch/out"

@@ -27,6 +27,7 @@ WAYS = {
     "numbers, compressed": "compress",
     "numbers, compressed late": "compress\ndelaycompress",
     "copied and cut": "copytruncate",
+    "numbers, and one is kept": "rotate 1",
     "copied and cut, compressed": "copytruncate\ncompress\ndateext\ndateformat -%Y%m%d-%s",
 }
 ROTATIONS = 3
@@ -51,7 +52,7 @@ def wait_for_second():
 
 def rotate(box, way):
     """A rotation, as in the night."""
-    if "%s" in WAYS[way]:
+    if "%s" in WAYS[way] or "rotate 1" in WAYS[way]:
         wait_for_second()
     config, state = os.path.join(box.home, "config"), os.path.join(box.home, "state")
     owner = f"{pwd.getpwuid(os.geteuid()).pw_name} {grp.getgrgid(os.getegid()).gr_name}"
@@ -74,13 +75,13 @@ def fault_of(box, lines):
     return ""
 
 
-def try_way(box, way, signs_live):
+def try_way(box, way, signs_live, is_same=False):
     """Rotations, with a run after each; one before each too, where the log that is written to is signed as well."""
     box.begin(os.path.join(box.scratch, "home-1"))
-    lines, what = [], f"{way}{', and signed before' if signs_live else ''}"
+    lines, what = [], f"{way}{', and signed before' if signs_live else ''}{', the same each night' if is_same else ''}"
 
     def write():
-        lines.append(b"line %d" % len(lines))
+        lines.append(b"line" if is_same else b"line %d" % len(lines))
         box.append("messages.log", lines[-1] + b"\n")
 
     for turn in range(ROTATIONS):
@@ -108,8 +109,9 @@ def main():
         box.begin()
         tell("keys", box.main(["make", box.keys]).err)
         for way in WAYS:
-            try_way(box, way, False)
-            try_way(box, way, True)
+            for signs_live in (False, True):
+                try_way(box, way, signs_live)
+            try_way(box, way, False, True)
     print(f"sign_folder_logrotate: {passed} passed, {failed} failed")
     return failed > 0 or passed == 0
 

@@ -31,11 +31,11 @@ def tell(what, fault):
     print(f"sign_folder_many: {what}: FAILED\n    {fault}")
 
 
-def link_of(rsid, before, name, log):
+def link_of(rsid, before, name, log, changed):
     """The message of a link, by docs/FORMATS.md."""
     stamp = time.strftime("%Y-%m-%dT%H:%M:%SZ", time.gmtime(rsid))
     text = {"aside": None, "before": before, "format": 1, "rsid": rsid,
-            "log": {"empty": 0, "end": len(log), "name": name, "sha256": hashlib.sha256(log).hexdigest(), "start": 0}}
+            "log": {"changed": changed, "empty": 0, "end": len(log), "name": name, "sha256": hashlib.sha256(log).hexdigest(), "start": 0}}
     return f"<110>1 {stamp} gate ssign - chain - {json.dumps(text, sort_keys=True, separators=(',', ':'))}".encode()
 
 
@@ -44,11 +44,11 @@ def fill(box, count, has_fork=False):
     before, rsid = None, int(time.time()) - 2 * count
     for number in range(count):
         name, log = f"m.log-{number:05}", b"<13>1 - h a - - - %d\n" % number
-        message = link_of(rsid + number, before, name, log)
-        octets = b"%d %s" % (len(message), message)
         pack = gzip.compress if number % 2 else bytes
         extension = ".gz" if number % 2 else ""
         box.put(name + extension, pack(log))
+        message = link_of(rsid + number, before, name, log, int(os.stat(box.at(name + extension)).st_mtime))
+        octets = b"%d %s" % (len(message), message)
         box.put(f"{name}.frames{extension}", pack(octets))
         before = {"name": f"{name}.frames", "rsid": rsid + number, "sha256": hashlib.sha256(octets).hexdigest()}
 
@@ -65,7 +65,7 @@ def measured(box, count):
         spent.append(ended.children_user + ended.children_system - began.children_user - began.children_system)
         tell(f"{count} files, run {run}", "" if done == (0, "", "") else str(done)[:500])
     os.unlink(box.at("m.log-00007.gz"))
-    box.put("m.log-00007", b"changed\n")
+    box.put("m.log-00007", b"changed\n", 5000)
     done = box.sign()
     tell(f"{count} files: the changed one is named", "" if done.status == 1 and "m.log-00007 was changed" in done.err else str(done)[:500])
     box.end()

@@ -45,18 +45,39 @@ class Whole(NamedTuple):
     sha256: str
 
 
+@dataclass(eq=False)
+class Signing:
+    """What the link of a signed file says about its log."""
+
+    log: Log
+    front: Optional[Signing]
+    """Where the file has late lines: what was signed before them."""
+    is_last: bool = True
+    """False where late lines of the log were signed after it."""
+
+    @property
+    def whole(self) -> Whole:
+        """The octets of the log up to its end."""
+        return Whole(self.log.end, self.log.sha256)
+
+    def all_fronts(self) -> Iterator[Signing]:
+        """This one, and those before late lines."""
+        found: Optional[Signing] = self
+        while found is not None:
+            yield found
+            found = found.front
+
+
 @dataclass
 class Known:
     """What the links of a folder say about logs."""
 
-    last: Dict[str, Log] = field(default_factory=dict)
-    """The last part that was signed of the log of a name."""
-    names: Dict[Whole, Set[str]] = field(default_factory=dict)
-    """Under which names such octets were signed."""
+    last: Dict[str, Signing] = field(default_factory=dict)
+    """The last one of a name."""
+    signings: Dict[Whole, List[Signing]] = field(default_factory=dict)
+    """Those of such octets."""
     parts: Dict[str, int] = field(default_factory=dict)
     """How many files a log of a name has."""
-    fronts: Dict[Whole, Whole] = field(default_factory=dict)
-    """Which octets late lines were added to."""
     unread: Set[str] = field(default_factory=set)
     """The names of logs with a signed file in which no link can be read."""
 
@@ -64,27 +85,20 @@ class Known:
         """Takes in what a link says. The links have to come in the order of their sessions."""
         if log is None:
             return
-        whole = Whole(log.end, log.sha256)
-        front = next((it for it in self.candidates(log.name) if it.end == log.start), None)
-        if front is not None and 0 < log.start < log.end:
-            self.fronts.setdefault(whole, Whole(front.end, front.sha256))
-        self.last[log.name] = log
-        self.names.setdefault(whole, set()).add(log.name)
+        is_late = 0 < log.start < log.end
+        front = next((it for it in self.candidates(log.name) if it.log.end == log.start), None) if is_late else None
+        if front is not None:
+            front.is_last = False
+        signing = self.last[log.name] = Signing(log, front)
+        self.signings.setdefault(signing.whole, []).append(signing)
         self.parts[log.name] = self.parts.get(log.name, 0) + 1
 
-    def candidates(self, name: str) -> List[Log]:
-        """The parts that may stand at the front of a log: the last one of its name, and of each name that it may have had."""
-        root, extension = os.path.splitext(name)
+    def candidates(self, name: str) -> List[Signing]:
+        """What may stand at the front of a log: the last one of its name, and of each name that it may have had."""
+        stem, extension = os.path.splitext(name)
         fronts = [name[:it] for it in range(1, len(name)) if name[it] in BETWEEN]
-        names = [name, *fronts, *(it + extension for it in fronts if len(it) < len(root))]
-        return [self.last[it] for it in dict.fromkeys(names) if it in self.last and self.last[it].end > 0]
-
-    def all_fronts(self, whole: Whole) -> Iterator[Whole]:
-        """Signed octets, and those at the front of them."""
-        found: Optional[Whole] = whole
-        while found is not None:
-            yield found
-            found = self.fronts.get(found)
+        names = [name, *fronts, *(it + extension for it in fronts if len(it) < len(stem))]
+        return [self.last[it] for it in dict.fromkeys(names) if it in self.last and self.last[it].log.end > 0]
 
 
 class Folder:

@@ -36,6 +36,8 @@ class Log(NamedTuple):
     """Of the first `end` octets of the log, expanded."""
     empty: int
     """How many empty lines were left out."""
+    changed: int
+    """When the log was changed last, in whole seconds since 1970."""
 
 
 class Aside(NamedTuple):
@@ -104,7 +106,7 @@ def is_link(link: Link) -> bool:
     """Whether each field has a value that it may have."""
     before, log, aside = link.before, link.log, link.aside
     return is_count(link.rsid) and (before is None or is_count(before.rsid) and is_named(before)) \
-        and (log is None or is_named(log) and is_count(log.empty) and is_count(log.start) and is_count(log.end)
+        and (log is None or is_named(log) and all(map(is_count, (log.start, log.end, log.empty, log.changed)))
              and log.start <= log.end) \
         and (aside is None or is_named(aside) and is_count(aside.messages))
 

@@ -2,6 +2,7 @@
 from __future__ import annotations
 
 import fnmatch
+import re
 from typing import Dict, List, Optional, Sequence
 
 from ..words import shown_name
@@ -12,6 +13,10 @@ BZIP2 = ".bz2"
 PACKED: Dict[str, Optional[str]] = {".gz": "gzip", BZIP2: None, ".xz": "xz", ".zst": "zstd"}
 # which files are logs, where nobody says it
 MATCH = ("*.log*",)
+# what logrotate adds to a name, at its end or before its extension: a number, or a date
+ADDED = re.compile(r"[-._][0-9][-._:+0-9TZ]*(?=(?:\.[A-Za-z][A-Za-z0-9]*)?\Z)")
+# a year and a month, a year of two digits with month and day, or seconds since 1970
+DATE = re.compile(r"(?<![0-9])(?:(?:19|20)[0-9]{2}[-._]?(?:0[1-9]|1[0-2])|[0-9]{6}(?![0-9])|[0-9]{10}(?![0-9]))")
 # of so many names a sentence has all
 FEW = 4
 
@@ -36,6 +41,17 @@ def is_log(name: str, globs: Sequence[str]) -> bool:
     if name.startswith(".") or name.endswith(NEW) or is_stamp(name) or bare(name).endswith((SIGNED, ASIDE)):
         return False
     return any(fnmatch.fnmatchcase(it, glob) for it in (name, bare(name)) for glob in globs)
+
+
+def root(name: str) -> str:
+    """The name that a log had before logrotate gave it this one, which has no compression."""
+    return ADDED.sub("", name, count=1)
+
+
+def is_dated(name: str) -> bool:
+    """Whether logrotate gives this name to one log alone, because it has a date; others are given again."""
+    added = ADDED.search(name)
+    return added is not None and DATE.search(added[0]) is not None
 
 
 def few(names: Sequence[str]) -> str:

@@ -98,6 +98,11 @@ class Seen:
             replace(self._path, body + b"\n" + hashlib.sha256(body).hexdigest().encode() + b"\n", 0o600)
 
 
+def seconds_of(seen: os.stat_result) -> int:
+    """When a file was changed last, in whole seconds since 1970."""
+    return max(0, seen.st_mtime_ns // 10 ** 9)
+
+
 def as_fact(inode: int, size: int, changed: int, touched: int, end: int, sha256: str) -> Fact:
     """The fact that was written so. Raises ValueError or TypeError where it is none."""
     return Fact(int(inode), int(size), int(changed), int(touched), int(end), str(sha256))

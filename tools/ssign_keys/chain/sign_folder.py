@@ -23,7 +23,7 @@ from .link import Before, Log
 from .options import Options, options_of
 from .names import bare
 from .reading import digests, open_in, plain_pieces
-from .seen import Seen
+from .seen import Seen, seconds_of
 from .to_sign import Finder, Part
 from .verifying import Verifier
 from .writing import Made, Source, Writer, passing_name
@@ -108,8 +108,6 @@ class Run:
         finder = Finder(self._folder, self._chain.known, seen, self._options.quiet, self._options.max_expanded, self._workplace)
         self._notes = finder.notes
         for part in finder.parts(self._folder.logs(self._options.match)):
-            if finder.is_signed(part):
-                continue
             self._make_ready()
             try:
                 while (end := self._sign(part)):
@@ -164,9 +162,9 @@ class Run:
             front = Front(part.start, lines)
             pieces = plain_pieces(file, part.log, self._workplace, self._options.max_expanded)
             found = digests(front.pieces(pieces), [part.start])
-            if part.start and Whole(part.start, found.fronts.get(part.start, "")) not in self._chain.known.names:
+            if part.start and Whole(part.start, found.fronts.get(part.start, "")) not in self._chain.known.signings:
                 raise Fault("it was changed meanwhile: run again")
-            log = Log(bare(part.log), part.start, found.size, found.sha256, 0)
+            log = Log(bare(part.log), part.start, found.size, found.sha256, 0, seconds_of(seen))
             made = self._writer.write(part.name, self._before, self._chain.last_rsid + 1, Source(log, seen.st_mode, lines))
         self._take(made)
         return found.size if front.has_more else 0
@@ -191,7 +189,7 @@ class Run:
 
     def notify(self) -> int:
         """Names what isn't signed, and gives the status."""
-        for it in [*self._notes.waits, *self._notes.troubles]:
+        for it in [*self._notes.others, *self._notes.waits, *self._notes.troubles]:
             self._say(it)
         return 1 if self._notes.troubles else 0
 

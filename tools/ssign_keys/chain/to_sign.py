@@ -1,15 +1,11 @@
-"""Which logs of a folder are to be signed, and from which octet on.
-
-A log is known by its name, or by the SHA-256 of its octets: logrotate gives it another name, and compresses it. So each log is
-found in the links before it is signed.
-"""
+"""Which logs of a folder are to be signed, and from which octet on."""
 from __future__ import annotations
 
 import os
 import stat
 import time
 from dataclasses import dataclass, field
-from typing import Dict, Iterator, List, NamedTuple, Optional, Sequence, Set
+from typing import Dict, Iterator, List, NamedTuple, Optional, Sequence, Set, Tuple
 
 from ..faults import Fault
 from ..files import NOT_REGULAR, reason
@@ -18,9 +14,10 @@ from ..words import counted, shown_name
 from ..workplace import Workplace
 from .folder import Folder, Known, Whole
 from .link import Log
-from .names import SIGNED, bare
+from .names import SIGNED, bare, is_dated
 from .reading import Digests, digests, open_in, plain_pieces
-from .seen import Seen
+from .same_logs import Here, Matcher
+from .seen import Seen, seconds_of
 
 DAY = 86400
 
@@ -35,22 +32,16 @@ class Part(NamedTuple):
     """That of the signed file, without what says that it is one; it may be taken."""
 
 
-class State(NamedTuple):
-    """What is known of a log."""
-
-    whole: Whole
-    signed: Optional[int]
-    """How many of its first octets are signed; None where its front is no log that was signed."""
-    is_cut: bool
-    """Whether it is the front of the log of its name."""
-
-
 @dataclass
 class Notes:
-    """What is said of logs that aren't signed."""
+    """What is said of logs."""
 
+    others: List[str] = field(default_factory=list)
+    """Of those that have the name of another log, which isn't here any more."""
     waits: List[str] = field(default_factory=list)
+    """Of those that aren't signed yet."""
     troubles: List[str] = field(default_factory=list)
+    """Of those that can't be signed."""
 
 
 class Finder:
@@ -65,8 +56,10 @@ class Finder:
         self._closed = Closed(folder, quiet)
         self._max_expanded = max_expanded
         self._workplace = workplace
-        self._claimed: Set[Whole] = set()
-        self._logs: Dict[str, State] = {}
+        self._matcher = Matcher(known)
+        self._here: Dict[Tuple[Whole, str], Here] = {}
+        # those that weren't looked at whether they are closed, because all of their octets were signed
+        self._unlooked: Set[str] = set()
         self.notes = Notes()
 
     def parts(self, logs: Sequence[str]) -> List[Part]:
@@ -76,7 +69,11 @@ class Finder:
                 self._look(it)
             except (Fault, OSError) as fault:
                 self.trouble(it, str(fault) if isinstance(fault, Fault) else f"it can't be read: {reason(fault)}")
-        return [part for it in logs if it in self._logs for part in self._part(it)]
+        here = list(self._here.values())
+        self._matcher.match(here)
+        found = [part for it in here for part in self._part(it)]
+        # late lines first: they go on after the last log of a name, and here another one may have that name by now
+        return sorted(found, key=lambda it: it.start == 0)
 
     def trouble(self, log: str, why: str) -> None:
         """Notes that a log isn't signed."""
@@ -91,16 +88,15 @@ class Finder:
             raise Fault(f"{NOT_REGULAR}: leave it out by --match, or move it into another folder")
         self._seen.find(log, seen)
         fact = self._seen.facts.get(log)
-        if fact is not None and fact.whole in self._known.names:
-            self._take(log, Digests(*fact.whole, {}))
+        if fact is not None and fact.whole in self._known.signings:
+            self._unlooked.add(log)
+            self._take(log, seen, Digests(*fact.whole, {}))
             return
         why = self._closed.why_not(log, seen)
         if why:
             self._wait(log, seen, why)
             return
-        found = self._read(log)
-        if found is not None:
-            self._take(log, found)
+        self._read(log)
 
     def _wait(self, log: str, seen: os.stat_result, why: str) -> None:
         """Notes that a log waits."""
@@ -114,68 +110,57 @@ class Finder:
             self.notes.troubles.append(f"{sentence}. It has waited for {hours}: have it rotated each day and closed then, or "
                                        "leave it out by --match")
 
-    def _read(self, log: str) -> Optional[Digests]:
-        """The octets of a log. None where it is gone, or was written to meanwhile."""
+    def _read(self, log: str) -> None:
+        """Takes the octets of a log, unless it is gone or was written to meanwhile."""
         if self._folder.stat(log) is None:
-            return None
+            return
         with open_in(self._folder.number, log) as file:
             before = os.fstat(file.fileno())
-            ends = [it.end for it in self._known.candidates(bare(log))]
+            ends = [it.log.end for it in self._known.candidates(bare(log))]
             found = digests(plain_pieces(file, log, self._workplace, self._max_expanded), ends)
             after = os.fstat(file.fileno())
         if (before.st_size, before.st_mtime_ns) != (after.st_size, after.st_mtime_ns):
             self._wait(log, after, "it was written to while it was read")
-            return None
+            return
         self._seen.take(log, before, Whole(found.size, found.sha256))
-        return found
+        self._take(log, before, found)
 
-    def _take(self, log: str, found: Digests) -> None:
-        """Notes which signed octets a log has at its front, and how many they are."""
-        whole, name = Whole(found.size, found.sha256), bare(log)
-        own = self._known.last.get(name)
-        held = {it.name: Whole(it.end, it.sha256) for it in self._known.candidates(name)
-                if found.fronts.get(it.end) == it.sha256}
-        names = self._known.names.get(whole, set())
-        # a log that was cut back to what it once was is no other log
-        is_cut = name in names and own is not None and name not in held and whole != Whole(own.end, own.sha256)
-        if names and not is_cut:
-            held.setdefault("", whole)
-        for it in held.values():
-            self._claim(it)
-        ends = [it.end for it in ([held[name]] if name in held else held.values())]
-        self._logs[log] = State(whole, max(ends, default=None), is_cut)
-
-    def _claim(self, whole: Whole) -> None:
-        """Notes that a log has signed octets at its front, and what stands at the front of these."""
-        for it in self._known.all_fronts(whole):
-            if it in self._claimed:
-                return
-            self._claimed.add(it)
+    def _take(self, log: str, seen: os.stat_result, found: Digests) -> None:
+        """Notes a log. One that is being compressed has its name twice, and is one log."""
+        it = Here(log, seconds_of(seen), Whole(found.size, found.sha256), found.fronts)
+        self._here.setdefault((it.whole, it.name), it)
 
     # ---- what follows from it
 
-    def _part(self, log: str) -> Iterator[Part]:
+    def _part(self, it: Here) -> Iterator[Part]:
         """What is to be signed of a log, if anything is."""
-        state, name = self._logs[log], bare(log)
-        own = self._known.last.get(name)
-        if state.signed is not None:
-            if state.whole.end > state.signed:
-                yield self.rest(log, state.signed)
-        elif own is not None and Whole(own.end, own.sha256) not in self._claimed:
-            self.notes.troubles.append(changed(log, own))
+        own, name = self._known.last.get(it.name), it.name
+        is_gone = own is not None and not self._matcher.is_here(own)
+        if it.signing is not None:
+            if it.whole.end > it.signing.log.end:
+                yield self.rest(it.file, it.signing.log.end)
+        elif own is not None and is_gone and (is_dated(name) or it.changed <= own.log.changed):
+            self.notes.troubles.append(changed(it.file, own.log))
         elif own is None and name in self._known.unread:
-            self.trouble(log, f"no link can be read in {shown_name(name + SIGNED)}: put a good copy of it in its place, or "
-                              "move it into another folder")
-        elif state.whole.end and not state.is_cut:
-            yield Part(log, 0, name)
+            self.trouble(it.file, f"no link can be read in {shown_name(name + SIGNED)}: put a good copy of it in its place, or "
+                                  "move it into another folder")
+        elif it.whole.end and self._is_closed(it.file):
+            if is_gone:
+                self.notes.others.append(f"{shown_name(it.file)} isn't the log that was signed under this name before: it "
+                                         "is signed as another one")
+            yield Part(it.file, 0, name)
+
+    def _is_closed(self, log: str) -> bool:
+        """Whether a log is closed, if that wasn't looked at."""
+        seen = self._folder.entries[log]
+        why = self._closed.why_not(log, seen) if log in self._unlooked else ""
+        if why:
+            self._wait(log, seen, why)
+        return not why
 
     def rest(self, log: str, start: int) -> Part:
         """What stands in a log after its signed octets."""
         return Part(log, start, f"{bare(log)}.late-{max(1, self._known.parts.get(bare(log), 0))}")
-
-    def is_signed(self, part: Part) -> bool:
-        """Whether such octets were signed meanwhile, under another name."""
-        return part.start == 0 and self._logs[part.log].whole in self._known.names
 
 
 def changed(log: str, own: Log) -> str:

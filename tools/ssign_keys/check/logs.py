@@ -3,8 +3,9 @@ from __future__ import annotations
 
 from typing import Dict, List, NamedTuple, Optional, Sequence, Set, Tuple
 
+from ..chain.folder import Whole
 from ..chain.link import Link
-from ..chain.names import SIGNED
+from ..chain.names import SIGNED, is_dated, root
 from ..words import grouped
 from .files import Folder, Lying, Reader, Unread
 from .findings import Finding, find
@@ -19,6 +20,8 @@ class Claim(NamedTuple):
     start: int
     end: int
     sha256: str
+    changed: int
+    """When the log was changed last, in seconds."""
 
 
 class Sums(NamedTuple):
@@ -30,6 +33,11 @@ class Sums(NamedTuple):
     sha256: str
     since: int
     """Since when it has these octets, as far as is known."""
+
+    @property
+    def whole(self) -> Whole:
+        """Its octets."""
+        return Whole(self.size, self.sha256)
 
 
 class Logs:
@@ -43,7 +51,7 @@ class Logs:
         self._now = now
         self._turn = turn
         self._logs: Dict[str, List[List[Claim]]] = {}
-        self._whole: Set[Tuple[int, str]] = set()
+        self._whole: Dict[Whole, List[str]] = {}
         for it in links:
             self._take(it)
         self.found: List[Finding] = []
@@ -52,12 +60,12 @@ class Logs:
         """Takes what a link says. A file from the front on begins another log, which has the name of an older one."""
         if link.log is None:
             return
-        claim = Claim(link.log.start, link.log.end, link.log.sha256)
+        claim = Claim(link.log.start, link.log.end, link.log.sha256, link.log.changed)
         claims = self._logs.setdefault(link.log.name, [])
         if claim.start == 0 or not claims:
             claims.append([])
         claims[-1].append(claim)
-        self._whole.add((claim.end, claim.sha256))
+        self._whole.setdefault(Whole(claim.end, claim.sha256), []).append(link.log.name)
 
     def check(self, folder: Folder, absent: Set[str], late: int) -> None:
         """Looks at all logs. One with octets that aren't signed after so many seconds is a finding.
@@ -65,6 +73,7 @@ class Logs:
         `absent` has the names of signed files that should be here.
         """
         names = {it.bare for it in folder.signed} | absent
+        read: List[Tuple[Lying, Sums]] = []
         for number, it in enumerate(folder.logs):
             claims = self._logs.get(it.bare, [])
             if not claims and it.bare + SIGNED in names:
@@ -72,23 +81,39 @@ class Logs:
                 continue
             sums = self._sums(it, sorted({claim.end for log in claims for claim in log}), number)
             if sums is not None:
-                self._compare(it, claims, sums, late)
+                read.append((it, sums))
+        held = self._held(read)
+        for it, sums in read:
+            self._compare(it, sums, (it.bare, sums.whole) in held, late)
 
-    def _compare(self, it: Lying, claims: List[List[Claim]], sums: Sums, late: int) -> None:
+    def _held(self, read: Sequence[Tuple[Lying, Sums]]) -> Set[Tuple[str, Whole]]:
+        """The logs all of whose octets signed files hold. Each of several logs with the same octets needs a file of its own."""
+        alike: Dict[Whole, Set[str]] = {}
+        for it, sums in read:
+            alike.setdefault(sums.whole, set()).add(it.bare)
+        found: Set[Tuple[str, Whole]] = set()
+        for whole, names in alike.items():
+            signed = self._whole.get(whole, [])
+            own, roots = set(signed), set(map(root, signed))
+            held = sorted(names, key=lambda it: (it not in own, root(it) not in roots, it))[:len(signed)]
+            found.update((it, whole) for it in held)
+        return found
+
+    def _compare(self, it: Lying, sums: Sums, is_held: bool, late: int) -> None:
         """Compares a log with what signed files say of it. logrotate may have given it another name since."""
-        covered = 0
+        covered, claims, age = 0, self._logs.get(it.bare, []), self._now - min(it.changed, sums.since)
         fits = [log for log in claims if all(sums.up_to.get(claim.end) == claim.sha256 for claim in log)]
-        if (sums.size, sums.sha256) in self._whole:
+        if is_held:
             covered = sums.size
         elif fits:
             covered = max(claim.end for log in fits for claim in log)
-        elif claims:
+        elif claims and (is_dated(it.bare) or it.changed <= claims[-1][-1].changed or sums.size and age > late):
+            # else the name may be that of a new log by now, which nothing was written to or which isn't signed yet
             end = max(claim.end for claim in claims[-1])
             signed = grouped(end, "octet")
             self._find("log", sums.sha256, f"its first {signed} aren't those that were signed" if sums.size >= end else
                        f"it has {grouped(sums.size, 'octet')}, and {signed} were signed", it)
             return
-        age = self._now - min(it.changed, sums.since)
         if sums.size > covered and age > late:
             what = f"its last {grouped(sums.size - covered, 'octet')} have" if covered else "it has"
             self._find("unsigned", sums.sha256, f"{what} no signed file, for {age // 3600} hours by now", it)
