@@ -7,6 +7,7 @@ step the signed files are read by folder_model.py, by rising RSID: each names th
 import collections
 import fnmatch
 import hashlib
+import json
 import lzma
 import os
 import re
@@ -142,6 +143,22 @@ def forked(box):
         shutil.copy2(box.at(it), os.path.join(home, "logs", it))
     shutil.rmtree(box.home)
     box.home = home
+
+
+def forged(name, rsid, before=None):
+    """A file with a link that nobody signed, by docs/FORMATS.md."""
+    def act(box):
+        text = {"aside": None, "before": before and {"name": before[0], "rsid": before[1], "sha256": 64 * "0"}, "format": 1, "log": None, "rsid": rsid}
+        message = b"<110>1 2026-11-30T04:00:00Z gate ssign - chain - " + json.dumps(text, sort_keys=True, separators=(",", ":")).encode()
+        box.put(name, b"%d %s" % (len(message), message))
+    return act
+
+
+def rsids_below(most):
+    """Fails where a signed file has a greater RSID."""
+    def act(box):
+        tell("the greatest RSID", "" if max(it.link["rsid"] for it in read_folder(box.logs)) < most else "it lies ahead")
+    return act
 
 
 def as_late(seconds):

@@ -13,8 +13,8 @@ import sys
 import time
 
 from folder_table import (A, BEGINS, C, DAY, EMPTY, FRAMES, FULL, GONE, KILLED, LEFT_OUT, MADE_C, SIGNED, Row, Step, append,
-                          as_late, both, change, copy, forget, forked, gz, hold, keep, let_go, lock, main, nothing, other_key,
-                          packed, put, put_back, remove, rename, stand_in, tell, write_on, zst)
+                          as_late, both, change, copy, forged, forget, forked, gz, hold, keep, let_go, lock, main, nothing,
+                          other_key, packed, put, put_back, remove, rename, rsids_below, stand_in, tell, write_on, zst)
 
 ROWS = [
     Row("one log", EMPTY, [Step(put("a.log-1", A), 0, ["a.log-1.frames"], [BEGINS])]),
@@ -81,6 +81,24 @@ ROWS = [
     Row("an earlier signed file is emptied", SIGNED, [Step(both(put(FRAMES[0], b""), C), 1, MADE_C, ["a.log-1 isn't signed: no link can be read in a.log-1.frames: put a good copy"], chains=-1)]),
     Row("the newest signed file is of another key", SIGNED, [Step(both(other_key, C), 2, [], ["isn't one that this key signed"]),
         Step(nothing, 0, MADE_C, words=["--begin"], chains=2)]),
+    Row("a signed file in the middle is gone, and put back", SIGNED, [Step(C, 0, MADE_C),
+        Step(both(keep(FRAMES[1]), remove(FRAMES[1])), 0, ["b.log-1.N.frames"], [f"{FRAMES[1]}: no link can be read there, and a later file names"],
+             chains=-1), Step(nothing, chains=-1), Step(put_back(FRAMES[1]))]),
+    Row("a signed file in the middle is damaged", SIGNED, [Step(C, 0, MADE_C),
+        Step(both(lambda box: box.put(FRAMES[1], box.read(FRAMES[1]).replace(b'"format":1', b'"format":2')), put("d.log-1", b"x\n")), 1,
+             ["d.log-1.frames"], ["b.log-1 isn't signed: no link can be read in b.log-1.frames", f"{FRAMES[1]}: no link can be read there"], chains=-1)]),
+    Row("the first signed file is gone", SIGNED, [Step(both(keep(FRAMES[0]), remove(FRAMES[0])), 0, ["a.log-1.N.frames"], chains=-1),
+        Step(put_back(FRAMES[0]))]),
+    Row("files that nobody signed name one another", SIGNED, [
+        Step(both(forged("x.frames", 9999999998, ("y.frames", 9999999997)), forged("y.frames", 9999999997, ("x.frames", 9999999998)), C), 0, MADE_C,
+             chains=-1),
+        Step(both(remove("x.frames", "y.frames"), rsids_below(5_000_000_000), put("d.log-1", b"x\n")), 0, ["d.log-1.frames"])]),
+    Row("a file that nobody signed has a great RSID", SIGNED, [
+        Step(both(forged("x.frames", 9999999990), C), 2, [], ["x.frames, the newest signed file of "], chains=-1),
+        Step(nothing, 2, [], ["x.frames states the RSID 9999999990, which lies ahead, and can't be verified"], ["--begin"], chains=-1),
+        Step(remove("x.frames"), 0, MADE_C)]),
+    Row("a chain begins after a clock that was ahead", SIGNED, [Step(C, 0, MADE_C, later=1000 * DAY),
+        Step(put("d.log-1", b"x\n"), 0, ["d.log-1.frames"], words=["--begin"], chains=2)]),
     Row("the link of the newest file was changed", SIGNED, [Step(both(lambda box: box.put(FRAMES[1], box.read(FRAMES[1]).replace(
         b'"empty":0', b'"empty":1')), C), 2, [], ["b.log-1.frames, the newest"], chains=-1)]),
     Row("a fork, and one is moved away", SIGNED, [Step(forked, 2, [], ["forks: no file names ", "c.log-1.frames", "d.log-1.frames"], chains=-1),

@@ -1,6 +1,7 @@
 """What lies in a folder: signed files with their links, the newest of them, and logs."""
 from __future__ import annotations
 
+import bisect
 import contextlib
 import errno
 import fcntl
@@ -14,7 +15,7 @@ from ..files import reason
 from ..store import open_folder
 from ..words import shown_name
 from ..workplace import Workplace
-from .link import Link, Log
+from .link import Before, Link, Log
 from .names import NEW, PACKED, SIGNED, bare, few, is_log, is_signed
 from .reading import First, digests, first_of, open_in, plain_pieces
 
@@ -108,6 +109,8 @@ class Folder:
         """Not locked yet."""
         self.name = shown_name(path)
         self._path = path
+        self.reserved: Set[str] = set()
+        """The names of files that others name as the one before."""
 
     def __enter__(self) -> Folder:
         """Locks it. Raises Busy where another run has it."""
@@ -152,9 +155,9 @@ class Folder:
         with contextlib.suppress(FileNotFoundError):
             os.unlink(name, dir_fd=self.number)
 
-    def has_signed(self, name: str) -> bool:
-        """Whether a signed file has a name, compressed or not."""
-        return any(self.stat(name + it) is not None for it in ("", *PACKED))
+    def is_taken(self, name: str) -> bool:
+        """Whether a signed file has a name, compressed or not, or has to have it, because another one names it."""
+        return name in self.reserved or any(self.stat(name + it) is not None for it in ("", *PACKED))
 
     def drafts(self) -> List[str]:
         """Passing files, which a run before left."""
@@ -170,6 +173,14 @@ class Folder:
         return sorted(found, key=lambda it: (self.entries[it].st_mtime_ns, it))
 
 
+def gaps_of(files: Sequence[Signed]) -> List[Before]:
+    """The files that others name and that aren't here, but for those that are older than all that are here."""
+    here = {it.link.rsid for it in files}
+    oldest = min(here, default=0)
+    named = [it.link.before for it in files if it.link.before is not None]
+    return [it for it in named if it.rsid not in here and it.rsid > oldest]
+
+
 class Chain:
     """The signed files of a folder, as their links say how they hang together."""
 
@@ -180,6 +191,8 @@ class Chain:
         self.known = Known()
         self.files: List[Signed] = []
         self.unlinked: List[str] = []
+        self.gaps: List[Before] = []
+        """What isn't here of the chain that goes on, once the newest is known."""
         for name in folder.frames():
             first = first_of(folder.number, name, workplace)
             if first is None:
@@ -190,19 +203,16 @@ class Chain:
         self.files.sort(key=lambda it: (it.link.rsid, it.name))
         for it in self.files:
             self.known.add(it.link.log)
+        # another file of such a name would stand in the way of the one that is put back
+        folder.reserved = {it.link.before.name for it in self.files if it.link.before is not None}
 
     @property
     def last_rsid(self) -> int:
-        """The greatest RSID; -1 where there is no signed file."""
+        """The greatest RSID that a file states, be it verified or not; -1 where there is no signed file."""
         return self.files[-1].link.rsid if self.files else -1
 
-    def take(self, signed: Signed) -> None:
-        """Takes in a file that goes on after all others."""
-        self.files.append(signed)
-        self.known.add(signed.link.log)
-
     def newest(self) -> Optional[Signed]:
-        """The file that no other names as the one before. A chain that begins later ends each earlier one.
+        """The file that no other names as the one before, and that goes on. A chain that begins later ends each earlier one.
 
         Raises Fault where it isn't known.
         """
@@ -216,15 +226,19 @@ class Chain:
             raise Fault(f"{few(unlinked)} in {self._folder.name}: no link can be read in it, and no file names it as the "
                         "one before, so nobody knows whether it is the newest: put a good copy in its place, or move it into "
                         "another folder")
+        self.gaps = gaps_of(present)
         ends = self._unnamed(present)
-        if len(ends) > 1:
+        gone = sorted(it.rsid for it in self.gaps)
+        # a file that isn't here may have named one of these, if it is newer
+        older = list(enumerate(reversed(ends[:-1]), 1))
+        if any(len(gone) - bisect.bisect(gone, it.link.rsid) < count for count, it in older):
             heads = few([it.name for it in ends])
             raise Fault(f"the chain of {self._folder.name} forks: no file names {heads} as the one before, as where a machine "
                         "was put back, or two of them sign with one key. Move the one into another folder that should not be "
                         "there; or --begin begins a chain after both")
         if present and not ends:
             raise Fault(f"the signed files of {self._folder.name} name one another in a circle: put good copies in their place")
-        return ends[0] if ends else None
+        return ends[-1] if ends else None
 
     def _unnamed(self, files: Sequence[Signed]) -> List[Signed]:
         """The files that no other names as the one before; of files with the same octets, one."""

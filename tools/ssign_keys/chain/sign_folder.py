@@ -21,7 +21,7 @@ from ..workplace import Workplace, finish, notify, put
 from .folder import Busy, Chain, Folder, Signed, Whole
 from .link import Before, Log
 from .options import Options, options_of
-from .names import bare
+from .names import bare, few
 from .reading import digests, open_in, plain_pieces
 from .seen import Seen, seconds_of
 from .to_sign import Finder, Part
@@ -30,7 +30,7 @@ from .writing import Made, Source, Writer, passing_name
 
 # where a run is stopped that begins a chain, this file has the greatest RSID of those before
 BEGINS = passing_name("begins")
-HOUR = 3600
+HOUR, DAY = 3600, 86400
 # a signed file has a message for each line, one for its link, and its blocks: ssign reads ten million
 MOST_LINES = 9_700_000
 
@@ -117,8 +117,12 @@ class Run:
                 finder.trouble(part.log, why)
         if not self.made and (self._begins or self._is_beat_due()):
             self._make_ready()
-            self._take(self._writer.write(None, self._before, self._chain.last_rsid + 1, None))
+            self._take(self._writer.write(None, self._before, self._least(), None))
         seen.keep()
+        if self.made and self._chain.gaps:
+            names = few([it.name for it in self._chain.gaps])
+            self._say(f"{names}: no link can be read there, and a later file names it as the one before: put a good copy in "
+                      "its place")
 
     def _is_beat_due(self) -> bool:
         """Whether nothing was signed for so long."""
@@ -135,9 +139,22 @@ class Run:
         if self._newest is not None:
             self._before = self._verified(self._newest)
             return
+        self._refuse_ahead()
         if not self._begins:
             notify(f"ssign-keys: a chain begins in {self._folder.name}")
         replace(os.path.join(self._options.folder, BEGINS), b"%d\n" % self._chain.last_rsid, 0o600)
+
+    def _refuse_ahead(self) -> None:
+        """Refuses to begin a chain after an RSID that nobody may have signed: it would use up those of the key."""
+        if self._chain.last_rsid < time.time() + DAY:
+            return
+        last = self._chain.files[-1]
+        try:
+            with open_in(self._folder.number, last.name) as file:
+                self._verifier.sha256(file, last.first)
+        except Fault as fault:
+            raise Fault(f"{shown_name(last.name)} states the RSID {last.link.rsid}, which lies ahead, and can't be verified with "
+                        "this key: move it into another folder before a chain begins") from fault
 
     def _verified(self, newest: Signed) -> Before:
         """The newest file, once it is verified and on the disk."""
@@ -165,15 +182,19 @@ class Run:
             if part.start and Whole(part.start, found.fronts.get(part.start, "")) not in self._chain.known.signings:
                 raise Fault("it was changed meanwhile: run again")
             log = Log(bare(part.log), part.start, found.size, found.sha256, 0, seconds_of(seen))
-            made = self._writer.write(part.name, self._before, self._chain.last_rsid + 1, Source(log, seen.st_mode, lines))
+            made = self._writer.write(part.name, self._before, self._least(), Source(log, seen.st_mode, lines))
         self._take(made)
         return found.size if front.has_more else 0
+
+    def _least(self) -> int:
+        """The least RSID of the next file. Of a chain that goes on, only what the newest file states is verified."""
+        return (self._chain.last_rsid if self._before is None else self._before.rsid) + 1
 
     def _take(self, made: Made) -> None:
         """Goes on after a signed file that was made."""
         self.made.append(made)
         self._before = made.before
-        self._chain.take(made.signed)
+        self._chain.known.add(made.signed.link.log)
         self._folder.remove(BEGINS)
         link = made.signed.link
         if link.log is not None and link.log.start:

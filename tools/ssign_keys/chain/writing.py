@@ -103,7 +103,7 @@ class Writer:
         """The name of a signed file; one with its RSID where another log has had the name before, or where it is a beat."""
         if name is None or source is None:
             return f"beat-{rsid}"
-        return f"{source.log.name}.{rsid}" if self._folder.has_signed(name + SIGNED) else name
+        return f"{source.log.name}.{rsid}" if self._folder.is_taken(name + SIGNED) else name
 
     @contextlib.contextmanager
     def _draft(self, name: str, mode: int) -> Iterator[BinaryIO]:
