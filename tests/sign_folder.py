@@ -157,6 +157,9 @@ ROWS = [
         Step(nothing, 2, [], ["not allowed with argument"], ["--beat=1", "--no-beat"]),
         Step(nothing, 2, [], ["--state doesn't go with --folder"], ["--state=x"]),
         Step(nothing, 2, [], ["can't be opened: No such file"], ["--folder=/nowhere"]),
+        Step(nothing, 2, [], ["the name of a folder is empty after --folder"], ["--folder="]),
+        Step(nothing, 2, [], ["'' is the pattern of no name of a file"], ["--match="]),
+        Step(nothing, 2, [], ["'logs/*' is the pattern of no name of a file, which has no /"], ["--match=logs/*"]),
         Step(nothing, 2, [], ["can't be read: No such file"], ["--key=/nowhere"])]),
 ]
 

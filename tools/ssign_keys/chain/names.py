@@ -1,6 +1,7 @@
 """The names of the files in a folder of signed logs, for whoever signs and whoever checks: what each ending says."""
 from __future__ import annotations
 
+import argparse
 import fnmatch
 import re
 from typing import Dict, List, Optional, Sequence
@@ -41,6 +42,13 @@ def is_log(name: str, globs: Sequence[str]) -> bool:
     if name.startswith(".") or name.endswith(NEW) or is_stamp(name) or bare(name).endswith((SIGNED, ASIDE)):
         return False
     return any(fnmatch.fnmatchcase(it, glob) for it in (name, bare(name)) for glob in globs)
+
+
+def read_glob(text: str) -> str:
+    """A pattern of names, as an option gives it."""
+    if not text or "/" in text:
+        raise argparse.ArgumentTypeError(f"{text!r} is the pattern of no name of a file, which has no /")
+    return text
 
 
 def root(name: str) -> str:

@@ -10,7 +10,7 @@ from ..faults import Fault
 from ..known_sessions import SESSION
 from ..programs import find_program
 from .lines import Names
-from .names import MATCH
+from .names import MATCH, read_glob
 
 DAY = 86400
 APP = "ssign"
@@ -43,8 +43,9 @@ def add_arguments(parser: argparse.ArgumentParser) -> None:
     parser.add_argument("--folder", metavar="DIR", help="sign each closed log of DIR that isn't signed yet, as LOG.frames "
                         "beside it: a session that names the signed file before it. No LOG is given then, the names of the new "
                         "files are printed, and the APP-NAME is ssign without --app")
-    parser.add_argument("--match", action="append", metavar="GLOB", help="which files of --folder are logs, by their "
-                        f"names, which may end in .gz, .xz or .zst besides (default: {MATCH[0]}); can be given several times")
+    parser.add_argument("--match", action="append", type=read_glob, metavar="GLOB", help="which files of --folder are logs, by "
+                        "their names, which may end in .gz, .xz or .zst besides (default: "
+                        f"{MATCH[0]}); can be given several times")
     parser.add_argument("--quiet", type=seconds, metavar="SECONDS", help="how long a log of --folder has to be unchanged "
                         "before it is signed (default: 2)")
     beat = parser.add_mutually_exclusive_group()
@@ -77,6 +78,8 @@ def options_of(arguments: argparse.Namespace) -> Options:
     for option, name in OF_ONE_LOG.items():
         if getattr(arguments, name, None):
             raise Fault(f"--{option} doesn't go with --folder, which signs each log as a session of its own")
+    if not arguments.folder:
+        raise Fault("the name of a folder is empty after --folder")
     if arguments.log is not None:
         raise Fault("--folder finds the logs itself: give no LOG; --match says which they are")
     given = {"host": machine_name(), "app": APP, "procid": "-"}

@@ -9,7 +9,7 @@ from typing import Optional, Tuple
 
 from .. import expand as expand_options
 from .. import stamped
-from ..chain.names import MATCH
+from ..chain.names import MATCH, read_glob
 from ..faults import Fault
 from ..numbers import MOST_JOBS, number
 from ..programs import add_program_argument, find_program
@@ -78,8 +78,8 @@ def add_arguments(parser: argparse.ArgumentParser) -> None:
     parser.add_argument("--expect", type=span, metavar="TIME", help="a file has to come at least each TIME, as 26h or 2d: "
                         "else it is a finding")
     parser.add_argument("--keep", type=span, metavar="TIME", help="what was checked may be removed after TIME, as 400d")
-    parser.add_argument("--match", action="append", metavar="GLOB", help="which other files are logs that have to be signed, by "
-                        f"their names (default: {MATCH[0]}); can be given several times")
+    parser.add_argument("--match", action="append", type=read_glob, metavar="GLOB", help="which other files are logs that have "
+                        f"to be signed, by their names (default: {MATCH[0]}); can be given several times")
     parser.add_argument("--read", choices=["all"], metavar="all", help="read all files, and not only those that are new or changed and a "
                         "thirtieth of the others")
     parser.add_argument("--jobs", type=number(1, MOST_JOBS), default=1, metavar="N",
