@@ -137,4 +137,4 @@ class Box:
         return [it for it in self.names() if bare(it).endswith(".frames")]
 
     def hidden(self) -> List[str]:
-        return sorted(it for it in os.listdir(self.logs) if it.startswith(".") and it != ".ssign-seen")
+        return sorted(it for it in os.listdir(self.logs) if it.startswith(".") and it != ".ssign-seen" and not os.path.isdir(self.at(it)))

@@ -14,7 +14,7 @@ import time
 
 from folder_table import (A, BEGINS, C, DAY, EMPTY, FRAMES, FULL, GONE, KILLED, LEFT_OUT, MADE_C, SIGNED, Row, Step, append,
                           as_late, both, change, copy, forged, forget, forked, gz, hold, keep, let_go, lock, main, nothing,
-                          other_key, packed, put, put_back, remove, rename, rsids_below, stand_in, tell, write_on, zst)
+                          other_key, packed, put, put_back, remove, rename, rsids_below, seen_as, stand_in, tell, write_on, zst)
 
 ROWS = [
     Row("one log", EMPTY, [Step(put("a.log-1", A), 0, ["a.log-1.frames"], [BEGINS])]),
@@ -79,8 +79,10 @@ ROWS = [
     Row("the newest signed file has no link", SIGNED, [Step(both(put("x.frames", b"22 <13>1 - - - - - - none"), C), 2, [],
         ["x.frames in ", "move it into another folder"], chains=-1)]),
     Row("an earlier signed file is emptied", SIGNED, [Step(both(put(FRAMES[0], b""), C), 1, MADE_C, ["a.log-1 isn't signed: no link can be read in a.log-1.frames: put a good copy"], chains=-1)]),
-    Row("the newest signed file is of another key", SIGNED, [Step(both(other_key, C), 2, [], ["isn't one that this key signed"]),
-        Step(nothing, 0, MADE_C, words=["--begin"], chains=2)]),
+    Row("the newest signed file is of another key", SIGNED, [Step(both(other_key, C), 2, [],
+        ["can't be verified with this key: ", "or the key was exchanged, --begin begins"]), Step(nothing, 0, MADE_C, words=["--begin"], chains=2)]),
+    Row("the program is missing", SIGNED, [Step(C, 2, [], ["the newest signed file of ", "the program /nowhere can't be run", "If it is damaged"],
+        ["--ssign=/nowhere"]), Step(nothing, 0, MADE_C)]),
     Row("a signed file in the middle is gone, and put back", SIGNED, [Step(C, 0, MADE_C),
         Step(both(keep(FRAMES[1]), remove(FRAMES[1])), 0, ["b.log-1.N.frames"], [f"{FRAMES[1]}: no link can be read there, and a later file names"],
              chains=-1), Step(nothing, chains=-1), Step(put_back(FRAMES[1]))]),
@@ -129,17 +131,24 @@ ROWS = [
         Step(nothing, 0, ["beat-N.frames"], later=DAY + 5000, words=["--beat=1"])]),
     Row("the clock goes back", SIGNED, [Step(C, 0, MADE_C, later=-1000 * DAY), Step(put("d.log-1", b"x\n"), 0, ["d.log-1.frames"])]),
     Row("what was seen is lost, or no such file", SIGNED, [Step(forget), Step(put(".ssign-seen", b"x" * 100)),
-        Step(put(".ssign-seen", b'{"format":1,"logs":{"a.log-1":[1]},"waits":{}}\n')), Step(both(forget, lambda box: os.mkdir(box.at(".ssign-seen"))))]),
+        Step(put(".ssign-seen", b'{"format":1,"logs":{"a.log-1":[1]},"waits":{}}\n')), Step(seen_as(b'{"format":1,"logs":{},"waits":{"1":[Infinity,0]}}')),
+        Step(seen_as(b'{"format":1,"logs":{"a.log-1":[1,1,1e999,1,1,""]},"waits":{}}')), Step(both(forget, lambda box: os.mkdir(box.at(".ssign-seen"))))]),
     Row("passing files are left", SIGNED, [Step(both(put(".c.log-1.frames.new", b"half"), put(".c.log-1.set-aside.new", b""), C), 0, MADE_C)]),
     Row("what was set aside is left", SIGNED, [
-        Step(both(put("c.log-1", 65537 * b"x"), put("c.log-1.set-aside", b"65537 " + 65537 * b"x")), 0, MADE_C, ["1 message is too long"])]),
+        Step(both(put("c.log-1", 65537 * b"x"), put("c.log-1.set-aside", b"65537 " + 65537 * b"x")), 0, MADE_C,
+            ["1 message is too long to be signed, and stands in c.log-1.set-aside, whose SHA-256 "])]),
     Row("what was set aside has the name of another file", SIGNED, [
         Step(both(put("c.log-1", 65537 * b"x"), put("c.log-1.set-aside", b"2 xy")), 1, [], ["c.log-1.set-aside is there already, and isn't"]),
         Step(remove("c.log-1.set-aside"), 0, MADE_C, ["1 message is too long"])]),
     Row("ssign is killed", SIGNED, [Step(C, 1, [], ["c.log-1 isn't signed: ssign sign was ended by the signal SIGKILL"], program=KILLED),
         Step(nothing, 0, MADE_C)]),
     Row("ssign is killed in the first file", EMPTY, [Step(C, 1, [], ["SIGKILL", BEGINS], program=KILLED, words=["--no-beat"], chains=0),
-        Step(nothing, 0, MADE_C)]),
+        Step(nothing, 0, MADE_C, [BEGINS, "because a run with --begin was stopped before its first file"])]),
+    Row("what says that a chain begins is no file", SIGNED, [Step(both(C, lambda box: os.mkdir(box.at(".begins.new"))), 0, MADE_C)]),
+    Row("a passing file is a folder", SIGNED, [Step(both(C, lambda box: os.mkdir(box.at(".c.log-1.frames.new"))), 1, [],
+        ["c.log-1 isn't signed: c.log-1.frames can't be written: File exists"]), Step(lambda box: os.rmdir(box.at(".c.log-1.frames.new")), 0, MADE_C)]),
+    Row("the lock is held for days", SIGNED, [Step(both(C, lock), 1, [], ["another process holds the lock of the folder ", "nothing was signed for 72 hours"]),
+        Step(nothing, 0, [], ["another run signs the folder "], ["--no-beat"], chains=-1), Step(let_go, 0, MADE_C)]),
     Row("the disk is full", SIGNED, [Step(both(C, put("d.log-1", b"x\n", 30)), 1, [], ["c.log-1 isn't signed: ", "d.log-1 isn't signed: ",
         "perhaps the disk is full"], program=FULL), Step(nothing, 0, ["c.log-1.frames", "d.log-1.frames"])]),
     Row("ssign writes another message", SIGNED, [Step(C, 1, [], ["c.log-1 isn't signed: "], program=LEFT_OUT), Step(nothing, 0, MADE_C)]),
@@ -147,7 +156,7 @@ ROWS = [
         ["c.txt.frames", "d.txt.frames", "e.out.frames"], words=["--match=*.txt", "--match", "*.out"]), Step(nothing)]),
     Row("odd names", SIGNED, [Step(both(put("a b.log", b"1\n", 50), put("n\nl.log", b"2\n", 40), put("é\udcff.log", b"3\n", 30), put("-x.log", b"4\n", 20)), 0,
         ["a b.log.frames", "n\\x0al.log.frames", "é\\xff.log.frames", "-x.log.frames"]), Step(nothing)]),
-    Row("a name that is too long", SIGNED, [Step(put("x" * 246 + ".log", b"1\n"), 1, [], ["a file can't be read or written: File name too long"])]),
+    Row("a name that is too long", SIGNED, [Step(put("x" * 246 + ".log", b"1\n"), 1, [], ["isn't signed: its name leaves no room for what a signed file has besides: give it a shorter"])]),
     Row("another HOSTNAME goes on", SIGNED, [Step(C, 0, MADE_C, words=["--host=other", "--app=x", "--procid=7"])]),
     Row("words that don't go with a folder", SIGNED, [
         Step(nothing, 2, [], ["--rsid doesn't go with --folder"], ["--rsid=5"]), Step(nothing, 2, [], ["give no LOG"], ["a.log-1"]),

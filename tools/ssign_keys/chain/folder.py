@@ -121,7 +121,9 @@ class Folder:
         try:
             fcntl.flock(self.number, fcntl.LOCK_EX | fcntl.LOCK_NB)
             if not os.access(self._path, os.W_OK | os.X_OK):
-                raise Fault(f"the folder {self.name} can't be written to: {os.strerror(errno.EACCES)}")
+                is_fixed = os.fstatvfs(self.number).f_flag & os.ST_RDONLY
+                why = os.strerror(errno.EROFS if is_fixed else errno.EACCES)
+                raise Fault(f"the folder {self.name} can't be written to: {why}")
         except (Fault, OSError) as fault:
             os.close(self.number)
             if isinstance(fault, BlockingIOError):
@@ -151,8 +153,8 @@ class Folder:
             return None
 
     def remove(self, name: str) -> None:
-        """Removes a file, if it is there."""
-        with contextlib.suppress(FileNotFoundError):
+        """Removes a file, if it is there. A folder stays."""
+        with contextlib.suppress(FileNotFoundError, IsADirectoryError):
             os.unlink(name, dir_fd=self.number)
 
     def is_taken(self, name: str) -> bool:

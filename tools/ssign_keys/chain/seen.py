@@ -53,7 +53,7 @@ class Seen:
         """What this run found."""
         self.waits: Dict[str, Tuple[int, int]] = {}
         """Since when the log of an inode waits, in seconds since 1970, and how many octets it has."""
-        with contextlib.suppress(OSError, ValueError, TypeError, KeyError, RecursionError):
+        with contextlib.suppress(OSError, ValueError, TypeError, KeyError, RecursionError, OverflowError):
             self._read()
 
     def _read(self) -> None:

@@ -6,9 +6,10 @@ likes, and finishes what the one before it left.
 from __future__ import annotations
 
 import argparse
+import errno
 import os
 import time
-from typing import BinaryIO, Iterator, List, Optional
+from typing import BinaryIO, Iterator, List, Optional, Union
 
 from ..faults import Fault
 from ..files import reason
@@ -21,7 +22,7 @@ from ..workplace import Workplace, finish, notify, put
 from .folder import Busy, Chain, Folder, Signed, Whole
 from .link import Before, Log
 from .options import Options, options_of
-from .names import bare, few
+from .names import bare, few, is_signed
 from .reading import digests, open_in, plain_pieces
 from .seen import Seen, seconds_of
 from .to_sign import Finder, Part
@@ -31,6 +32,8 @@ from .writing import Made, Source, Writer, passing_name
 # where a run is stopped that begins a chain, this file has the greatest RSID of those before
 BEGINS = passing_name("begins")
 HOUR, DAY = 3600, 86400
+# after so many times the time of a beat nothing is signed in the folder
+BEATS = 2
 # a signed file has a message for each line, one for its link, and its blocks: ssign reads ten million
 MOST_LINES = 9_700_000
 
@@ -47,11 +50,23 @@ def run(arguments: argparse.Namespace) -> int:
             signing.sign_all()
             status = signing.notify()
     except Busy:
+        return meet(options)
+    write_out([f"{shown_name(it.signed.name)}\n".encode() for it in signing.made])
+    return status
+
+
+def meet(options: Options) -> int:
+    """Says that another run has the folder. Status 1 if that can't be, because nothing was signed for too long."""
+    with os.scandir(options.folder) as found:
+        newest = max((it.stat(follow_symlinks=False).st_mtime for it in found if is_signed(it.name)), default=None)
+    idle = 0 if newest is None else int((time.time() - newest) // HOUR)
+    if options.beat is None or idle < BEATS * options.beat:
         notify(f"ssign-keys: another run signs the folder {shown_name(options.folder)} now; what it doesn't sign, the next run "
                "signs")
         return 0
-    write_out([f"{shown_name(it.signed.name)}\n".encode() for it in signing.made])
-    return status
+    notify(f"ssign-keys: another process holds the lock of the folder {shown_name(options.folder)}, and nothing was signed for "
+           f"{counted(idle, 'hour')}: see which it is (`lslocks`), and end it")
+    return 1
 
 
 class Run:
@@ -87,8 +102,11 @@ class Run:
         """Whether a run was stopped that began a chain, before the first file of it had its name."""
         if BEGINS not in self._folder.entries:
             return False
-        with open_in(self._folder.number, BEGINS) as file:
-            text = file.read(20).strip()
+        try:
+            with open_in(self._folder.number, BEGINS) as file:
+                text = file.read(20).strip()
+        except Fault:
+            return False
         after = int(text) if text.lstrip(b"-").isdigit() else -1
         return all(it.link.before is not None or it.link.rsid <= after for it in self._chain.files)
 
@@ -113,8 +131,7 @@ class Run:
                 while (end := self._sign(part)):
                     part = finder.rest(part.log, end)
             except (Fault, OSError) as fault:
-                why = str(fault) if isinstance(fault, Fault) else f"a file can't be read or written: {reason(fault)}"
-                finder.trouble(part.log, why)
+                finder.trouble(part.log, why_of(fault))
         if not self.made and (self._begins or self._is_beat_due()):
             self._make_ready()
             self._take(self._writer.write(None, self._before, self._least(), None))
@@ -140,8 +157,9 @@ class Run:
             self._before = self._verified(self._newest)
             return
         self._refuse_ahead()
-        if not self._begins:
-            notify(f"ssign-keys: a chain begins in {self._folder.name}")
+        if not self._options.begins:
+            why = ", because a run with --begin was stopped before its first file" if self._begins else ""
+            self._say(f"a chain begins in {self._folder.name}{why}")
         replace(os.path.join(self._options.folder, BEGINS), b"%d\n" % self._chain.last_rsid, 0o600)
 
     def _refuse_ahead(self) -> None:
@@ -163,10 +181,10 @@ class Run:
                 os.fsync(file.fileno())
                 sha256 = self._verifier.sha256(file, newest.first)
         except Fault as fault:
-            raise Fault(f"{shown_name(newest.name)}, the newest signed file of {self._folder.name}, isn't one that this key "
-                        f"signed, or it is damaged: {str(fault).rstrip('.')}. Put the last good copy in its place, or move "
-                        "it into another folder if it doesn't belong here; if there is no copy, --begin begins a "
-                        "chain") from fault
+            raise Fault(f"{shown_name(newest.name)}, the newest signed file of {self._folder.name}, can't be verified with "
+                        f"this key: {str(fault).rstrip('.')}. If it is damaged, put the last good copy in its place; if it "
+                        "doesn't belong here, move it into another folder; if there is no copy, or the key was exchanged, "
+                        "--begin begins a chain") from fault
         os.fsync(self._folder.number)
         return Before(bare(newest.name), newest.link.rsid, sha256)
 
@@ -201,8 +219,9 @@ class Run:
             self._say(f"{shown_name(link.log.name)}: its lines after octet {link.log.start}, up to which it was signed before, "
                       f"are signed in {shown_name(made.signed.name)}")
         if link.aside is not None:
-            self._say(f"{counted(link.aside.messages, 'message is', 'messages are')} too long to be signed, and stand in "
-                      f"{shown_name(link.aside.name)}, whose SHA-256 {shown_name(made.signed.name)} holds")
+            what = counted(link.aside.messages, "message is too long to be signed, and stands in",
+                           "messages are too long to be signed, and stand in")
+            self._say(f"{what} {shown_name(link.aside.name)}, whose SHA-256 {shown_name(made.signed.name)} holds")
 
     @staticmethod
     def _say(sentence: str) -> None:
@@ -213,6 +232,15 @@ class Run:
         for it in [*self._notes.others, *self._notes.waits, *self._notes.troubles]:
             self._say(it)
         return 1 if self._notes.troubles else 0
+
+
+def why_of(fault: Union[Fault, OSError]) -> str:
+    """Why a log isn't signed, and what to do where the reason of the system says too little."""
+    if isinstance(fault, Fault):
+        return str(fault)
+    if fault.errno == errno.ENAMETOOLONG:
+        return "its name leaves no room for what a signed file has besides: give it a shorter one"
+    return f"a file can't be read or written: {reason(fault)}"
 
 
 class Front:

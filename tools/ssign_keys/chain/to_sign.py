@@ -189,6 +189,6 @@ class Closed:
             self._has_waited = True
         now = self._folder.stat(log)
         if now is not None and (now.st_size, now.st_mtime_ns) != (seen.st_size, seen.st_mtime_ns):
-            return f"it was written to in the last {self._quiet:g} seconds"
+            return f"it was written to {f'in the last {self._quiet:g} seconds' if self._quiet else 'just now'}"
         writer = self._writers.of(seen)
         return f"the process {writer} has it open for writing" if writer else ""
