@@ -152,6 +152,7 @@ BAD = (
     ("a fingerprint with colons", "gate ssign - SHA256:" + ":".join(["ab"] * 32), DIGITS),
     ("an empty fingerprint", "gate ssign - SHA256:", DIGITS),
     ("a fingerprint in small letters, cut", f"gate ssign - sha256:{HEX[1:]}", DIGITS),
+    ("an option that means another limit", f"gate ssign - {ONE} valid-until=2027-01-01", f"there is no option valid-until=: {OPTIONS}"),
     ("an option that isn't there", f"gate ssign - {ONE} namespaces=file", f"there is no option namespaces=: {OPTIONS}"),
     ("an option that is mistyped", f"gate ssign - {ONE} valid-befor=2028-01-01",
      "there is no option valid-befor=: perhaps valid-before= is meant; a file of such a name begins with ./"),

@@ -23,6 +23,8 @@ FIELDS = (("HOSTNAME", 255), ("APP-NAME", 48), ("PROCID", 128))
 FORM = "HOSTNAME APP-NAME PROCID KEY, then the limits of the key"
 LIMITS = {"valid-after": "valid_after", "valid-before": "valid_before", "revoked-at": "revoked_at"}
 FINGERPRINT, AUTHORITY = "SHA256:", "ca"
+# from there on two names differ by a slip of the hand; valid-until is no slip of valid-after
+ALIKE = 0.8
 DIGITS = re.compile(r"[0-9A-Fa-f]{64}")
 CONTROL = re.compile(rb"[\x00-\x08\x0a-\x1f\x7f]")
 OPTION = re.compile(r"([A-Za-z][A-Za-z0-9_-]*)=(.*)")
@@ -180,7 +182,7 @@ def read_pattern(field: Tuple[str, int], word: bytes) -> bytes:
 def add_limit(limits: Limits, name: str, value: str) -> Limits:
     """The limits with one more."""
     if name not in LIMITS:
-        near = difflib.get_close_matches(name.lower(), [*LIMITS, AUTHORITY], 1)
+        near = difflib.get_close_matches(name.lower(), [*LIMITS, AUTHORITY], 1, ALIKE)
         hint = f"perhaps {near[0]}= is meant" if near else f"there are {', '.join(f'{it}=' for it in LIMITS)} and {AUTHORITY}="
         raise Fault(f"there is no option {shown_name(name)}=: {hint}; a file of such a name begins with ./")
     if limits._asdict()[LIMITS[name]] is not None:
