@@ -301,6 +301,13 @@ def rows(made, base):
         edit(night(10), lambda it: made.alpha_file(10, at[9], b"<13>1 - alpha app - - - x\n")),
         # the log is that of the file that was seen
         f"alpha/{night(10)} changed", "alpha/m-10.log log")
+    row("the newest is signed again with other lines, and the signer goes on",
+        both(edit(night(10), lambda it: made.alpha_file(10, at[9], b"<13>1 - alpha app - - - x\n")),
+             lambda logs: write(f"{logs}/alpha/{night(11)}", made.alpha_file(11, before_of(logs, 10)))),
+        f"alpha/{night(10)} changed", "alpha/m-10.log log", acts=ACCEPT, words=f"{night(11)} goes on from it, so keep it")
+    row("the newest was signed again, the signer went on, and the first one is put back",
+        add(night(11), made.alpha_file(11, {"name": night(10), "rsid": START + DAY * 10 + 7, "sha256": "cd" * 32})),
+        f"alpha/{night(10)} missing", f"alpha/{night(10)} changed", acts=ACCEPT, words="another file has its name")
     row("a night is a copy of another", duplicate(night(5), night(4)), f"alpha/{night(4)} changed",
         words="has the octets of m-05")
     row("the newest is a copy of the one before", duplicate(night(9), night(10)), f"alpha/{night(10)} changed",

@@ -334,6 +334,8 @@ def trust(bench):
                           ([*one, "--accept", "alpha new", "--why", "x"], "has no open finding"),
                           ([*one, "--keep", "4"], "is no time such as"), ([*one, "--expect", "0h"], "is no time such as"),
                           ([*one, f"{bench.top}/nowhere"], "there is no folder"),
+                          ([*one, "--begin", "--memory", f"{bench.logs}/memory"], "lies among the folders of originators"),
+                          ([*one, "--begin", "--memory", f"{bench.logs}/alpha/memory"], "lies among the folders of originators"),
                           ([*one, "--match", "logs/*.log"], "is the pattern of no name of a file"),
                           ([*one, f"{bench.top}/logs/alpha"], "have one name")):
         status, out, err = world.tool(*args, *words, bench.logs, now=NOW)

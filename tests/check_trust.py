@@ -86,7 +86,9 @@ def rows(bench, signers):
     # revoked before: nothing of it counts, even under a new memory
     bench.begin(with_memory=False)
     bench.trust(f"{alpha} revoked-at={utc(START)}", beta)
-    tell("a key that was revoked before", fault_of(bench.check("--begin"), 1, ["alpha damaged"]))
+    result = bench.check("--begin")
+    tell("a key that was revoked before", fault_of(result, 1, ["alpha damaged"]))
+    tell("the words say so", "" if "its key is revoked from" in result[3][0] else result[3][0])
 
     # at the second before, at and after a limit
     for what, offset, status in (("a second before", -1, 1), ("at that second", 0, 1), ("a second after", 1, 0)):

@@ -32,7 +32,7 @@ KINDS: Dict[str, Kind] = {
                     "put the copy back; or find out who signed this one, and accept it"),
     "damaged": Kind("A file isn't as it was signed, or no key that is given signed it.",
                     "put the copy back; or read what `ssign-keys verify` reports, and accept it"),
-    "unreadable": Kind("A file can't be read to its end.", "make it readable, or put the copy back; or accept it"),
+    "unreadable": Kind("A file can't be read to its end, or a folder can't be read.", "make it readable, or put the copy back; or accept it"),
     "fork": Kind("Two files name the same file before, or two are the newest.",
                  "find out whether the signer was put back or a second one has its key; then accept it"),
     "begins": Kind("A second chain of files begins.",

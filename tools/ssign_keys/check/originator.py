@@ -93,7 +93,7 @@ class Originator:
         except OSError as fault:
             self._folder = None
             what = f"its folder {shown_name(self.folder)} can't be read: {fault.strerror}"
-            self.found.append(find("gone", "gone", what, self.name))
+            self.found.append(find("gone" if isinstance(fault, FileNotFoundError) else "unreadable", "gone", what, self.name))
             return
         names: Dict[str, str] = {}
         for it in self._folder.signed:
@@ -230,8 +230,11 @@ class Originator:
         files = [it.file for it in self._here if it.file is not None]
         if len(files) > 1 and len(files) == len(self._here) and all(it.status and it.session is None for it in files):
             self.found = [it for it in self.found if it.kind != "damaged"]
-            self.found.append(find("damaged", digest(sorted(it.sha256 for it in files)),
-                                   f"none of its {grouped(len(files), 'file')} is signed by a key that is given", self.name))
+            newest = self._here[-1]
+            why = newest.file.said.partition(". ")[0] if newest.file is not None else ""
+            what = f"none of its {grouped(len(files), 'file')} is signed by a key that is trusted for it; of " \
+                f"{shown_name(newest.name)}: {why}"
+            self.found.append(find("damaged", digest(sorted(it.sha256 for it in files)), what, self.name))
 
     def _oddness(self, it: Here) -> Tuple[bool, str]:
         """Which of two files with the same octets is the copy: the one that hasn't the name of its log, or its first one."""

@@ -174,6 +174,8 @@ class Walk:
                 if it.name not in told:
                     who = "seen before" if it.is_seen else f"named by {few(self._names_of_followers(it))}"
                     what = f"it is validly signed, and its SHA-256 isn't the one that was {who}"
+                    if other.sha256 in self._followers:
+                        what += f"; {few(self._names_of_followers(other))} goes on from it, so keep it"
                     self._find("changed", other.sha256, what, other)
                     self._walked.changed.add(other.sha256)
                 told.add(it.name)
@@ -209,7 +211,8 @@ class Walk:
         is_cut = not followers or find("cut", fact, "", self._originator, top.name).name in self._accepted
         if not is_cut:
             by = few(sorted(it.name for it in followers))
-            self._find("missing", fact, f"it isn't there, and {by} names it as the file before{more}", top)
+            what = "another file has its name" if top.name in self._by_name else "it isn't there"
+            self._find("missing", fact, f"{what}, and {by} names it as the file before{more}", top)
         else:
             self._find("cut", fact, f"it was the newest of its chain at an earlier check, and isn't there{more}", top)
 
