@@ -87,6 +87,6 @@ class Matcher:
                 if signing.is_last and signing not in self._claimed and signing.log.end < it.whole.end
                 and it.fronts.get(signing.log.end) == signing.log.sha256]
         own = [signing for signing in held if signing.log.name == it.name]
-        it.signing = next(iter(own), None) or max(held, key=lambda signing: signing.log.end, default=None)
-        if it.signing is not None:
+        if held:
+            it.signing = own[0] if own else max(held, key=lambda signing: signing.log.end)
             self._claimed.update(it.signing.all_fronts())

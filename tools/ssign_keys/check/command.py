@@ -79,7 +79,8 @@ def inputs(options: Options) -> List[str]:
 def refuse_places(folders: Dict[str, str], options: Options) -> None:
     """Refuses a memory among the logs, which would be an originator, and a status file that can't be written."""
     memory = os.path.realpath(options.memory)
-    if any(os.path.commonpath([memory, it]) == it for it in map(os.path.realpath, [*options.folders, *folders.values()])):
+    places = [os.path.realpath(it) for it in (*options.folders, *folders.values())]
+    if any(os.path.commonpath([memory, it]) == it for it in places):
         raise Fault(f"the memory {shown_name(options.memory)} lies among the folders of originators: keep it elsewhere")
     if options.status is not None and not os.path.isdir(os.path.dirname(options.status) or "."):
         raise Fault(f"the status file {shown_name(options.status)} can't be written: there is no such folder")
