@@ -508,7 +508,7 @@ def check_helps(program):
         status, help_text, said = with_pipe([tool, "--help"], b"")
         tell(name + " --help", "" if status == 0 and not said and help_text.startswith(b"usage: ") else "status %d" % status)
         commands = [it.split()[0].decode() for it in help_text.splitlines() if it.startswith(b"    ") and it[4:5] != b" "]
-        wanted = ["make", "sign", "verify", "seal", "answer", "help"] if tool == KEYS else ["split", "join", "review", "prepare", "part", "table", "help"]
+        wanted = ["make", "sign", "verify", "seal", "answer", "help"] if tool == KEYS else ["split", "join", "help"]
         tell(name + ": the order of the commands", "" if [it for it in commands if it in wanted] == wanted else str(commands))
         tell(name + " help", "" if with_pipe([tool, "help"], b"") == (0, help_text, b"") else "it isn't --help")
         for words in (["--version"], ["--version", "x"]):
