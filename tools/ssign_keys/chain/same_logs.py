@@ -86,7 +86,6 @@ class Matcher:
         held = [signing for signing in self._known.candidates(it.name)
                 if signing.is_last and signing not in self._claimed and signing.log.end < it.whole.end
                 and it.fronts.get(signing.log.end) == signing.log.sha256]
-        own = [signing for signing in held if signing.log.name == it.name]
         if held:
-            it.signing = own[0] if own else max(held, key=lambda signing: signing.log.end)
+            it.signing = max(held, key=lambda signing: (signing.log.name == it.name, signing.log.end))
             self._claimed.update(it.signing.all_fronts())
