@@ -218,7 +218,7 @@ _ssign_keys_words() {
         if [[ $2 == -* ]]; then
             _ssign_keys_offer words '--help --older'
         else
-            _ssign_keys_offer text
+            _ssign_keys_offer files
         fi
         ;;
     manifest)

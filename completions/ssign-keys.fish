@@ -164,6 +164,7 @@ complete -c ssign-keys -n '__ssign_keys_command check' -a '(__fish_complete_dire
 complete -c ssign-keys -n __ssign_keys_command -a alarm -d 'Fail if the last clean check is too old, by its status file'
 complete -c ssign-keys -n '__ssign_keys_command alarm' -l help -s h -d 'show this help message and exit'
 complete -c ssign-keys -n '__ssign_keys_command alarm' -l older -x -d 'how old the last clean check may be, as 26h or 2d (default'
+complete -c ssign-keys -n '__ssign_keys_command alarm' -F
 complete -c ssign-keys -n __ssign_keys_command -a manifest -d 'Keep a list of signed logs, and check logs against it'
 complete -c ssign-keys -n '__ssign_keys_command manifest' -l help -s h -d 'show this help message and exit'
 complete -c ssign-keys -n '__ssign_keys_command manifest' -l set-aside -r -F -d 'add'

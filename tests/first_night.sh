@@ -85,7 +85,7 @@ if [[ $(id -u) != 0 ]]; then
     echo "$name: skipped the six commands, which root runs"
     finish
 fi
-mapfile -t commands < <(awk '/^### From rsyslog to the first checked night$/ { inside = 1; next } /^##/ { inside = 0 }
+mapfile -t commands < <(awk '/^## From rsyslog to the first checked night$/ { inside = 1; next } /^##/ { inside = 0 }
     inside && /^    / { found = 1; print substr($0, 5); next } inside && found { exit }' "$root/docs/guide.md")
 holds 'the guide has six commands' test "${#commands[@]}" = 6
 rm -r etc var

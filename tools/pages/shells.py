@@ -6,7 +6,7 @@ from typing import Iterable, List, Sequence
 from .help import Command, Option, Program
 
 # the names of values that are files, and of those that are folders
-FILES = ("FILE", "IN", "LOG", "PROGRAM", "PUBLIC.pem", "PRIVATE.pem", "CA.pem", "CERT.pem")
+FILES = ("FILE", "IN", "LOG", "STATUS", "PROGRAM", "PUBLIC.pem", "PRIVATE.pem", "CA.pem", "CERT.pem")
 FOLDERS = ("ARCHIVE", "DIR", "FOLDER")
 # options that may be given several times
 REPEATED = ("--accept", "--match", "--place", "--key", "--session-key", "--ca", "--ca-anchor", "--cert", "--sshlogin")
