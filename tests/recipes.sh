@@ -50,9 +50,12 @@ if command -v systemd-analyze >out; then
     done
     if systemd-analyze --help | grep -q -e --offline; then
         for unit in system/*.service; do
-            systemd-analyze security --offline=true --threshold=13 "$unit" >out 2>&1
+            most=13
+            # it asks a service of time stamps, over the network
+            [[ $unit != */ssign-stamp@.service ]] || most=20
+            systemd-analyze security --offline=true --threshold="$most" "$unit" >out 2>&1
             status=$?
-            holds "systemd calls ${unit##*/} safe, at most 13 of 100: $(tail -n 1 out)" test "$status" = 0
+            holds "systemd calls ${unit##*/} safe, at most $most of 100: $(tail -n 1 out)" test "$status" = 0
         done
     fi
 else
