@@ -146,7 +146,7 @@ ROWS = [
         Step(nothing, 0, MADE_C, [BEGINS, "because a run with --begin was stopped before its first file"])]),
     Row("what says that a chain begins is no file", SIGNED, [Step(both(C, lambda box: os.mkdir(box.at(".begins.new"))), 0, MADE_C)]),
     Row("a passing file is a folder", SIGNED, [Step(both(C, lambda box: os.mkdir(box.at(".c.log-1.frames.new"))), 1, [],
-        ["c.log-1 isn't signed: c.log-1.frames can't be written: File exists"]), Step(lambda box: os.rmdir(box.at(".c.log-1.frames.new")), 0, MADE_C)]),
+        ["c.log-1 isn't signed: .c.log-1.frames.new is there already, and can't be replaced: remove it"]), Step(lambda box: os.rmdir(box.at(".c.log-1.frames.new")), 0, MADE_C)]),
     Row("the lock is held for days", SIGNED, [Step(both(C, lock), 1, [], ["another process holds the lock of the folder ", "nothing was signed for 72 hours"]),
         Step(nothing, 0, [], ["another run signs the folder "], ["--no-beat"], chains=-1), Step(let_go, 0, MADE_C)]),
     Row("the disk is full", SIGNED, [Step(both(C, put("d.log-1", b"x\n", 30)), 1, [], ["c.log-1 isn't signed: ", "d.log-1 isn't signed: ",

@@ -115,6 +115,8 @@ class Writer:
             with open(os.open(passing, flags, mode, dir_fd=folder), "w+b") as file:
                 os.fchmod(file.fileno(), mode)
                 yield file
+        except FileExistsError as fault:
+            raise Fault(f"{shown_name(passing)} is there already, and can't be replaced: remove it") from fault
         except OSError as fault:
             raise Fault(f"{shown_name(name)} can't be written: {reason(fault)}") from fault
         finally:
