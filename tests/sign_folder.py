@@ -67,7 +67,7 @@ ROWS = [
     Row("all signed files are gone, and a chain begins", SIGNED, [
         Step(remove(*FRAMES), 2, [], [GONE], chains=0), Step(nothing, 0, FRAMES, words=["--begin"]), Step(C, 0, MADE_C)]),
     Row("the newest signed file is damaged, and put back", SIGNED, [
-        Step(both(keep(FRAMES[1]), change(FRAMES[1], -200, 65), C), 2, [], ["b.log-1.frames, the newest signed file of ", "Put the last good"],
+        Step(both(keep(FRAMES[1]), change(FRAMES[1], -200, 65), C), 2, [], ["b.log-1.frames, the newest signed file of ", "put the last good copy in its place"],
              chains=-1), Step(put_back(FRAMES[1]), 0, MADE_C)]),
     Row("the newest signed file is damaged, and a chain begins", SIGNED, [
         Step(both(change(FRAMES[1], -200, 65), C), 2, [], ["--begin begins a chain"], chains=-1),
