@@ -99,6 +99,19 @@ EXAMPLES = [
     ("a nested frame, after damage", b"X" + NESTED + TWO, [], [b"<13>1 a", b"<13>1 b"], ["damaged 0 0 22", "end 2"], 1),
     ("digits that make a length with the next one", b"X7 <13>1 1" + TWO + THREE, [], [b"<13>1 1", b"<13>1 b", b"<13>1 cc"],
      ["damaged 0 0 1", "end 3"], 1),
+    ("an LF after each frame", ONE + b"\n" + TWO + b"\n" + THREE + b"\n", [], [b"<13>1 a", b"<13>1 b", b"<13>1 cc"],
+     ["damaged 1 9 1", "damaged 2 19 1", "damaged 3 30 1", "end 3"], 1),
+    ("a CR LF after each frame", ONE + b"\r\n" + TWO + b"\r\n", [], [b"<13>1 a", b"<13>1 b"],
+     ["damaged 1 9 2", "damaged 2 20 2", "end 2"], 1),
+    ("an LF after each frame but the last", ONE + b"\n" + TWO + b"\n" + THREE, [], [b"<13>1 a", b"<13>1 b", b"<13>1 cc"],
+     ["damaged 1 9 1", "damaged 2 19 1", "end 3"], 1),
+    ("an LF after the last frame, and damage before", b"X" + ONE + b"\n", [], [b"<13>1 a"],
+     ["damaged 0 0 1", "damaged 1 10 1", "end 1"], 1),
+    ("two LFs after each frame", ONE + b"\n\n" + TWO + b"\n\n" + THREE + b"\n\n", [], [b"<13>1 a"], ["damaged 1 9 25", "end 1"], 1),
+    ("a CR after each frame", ONE + b"\r" + TWO + b"\r", [], [b"<13>1 a"], ["damaged 1 9 11", "end 1"], 1),
+    ("an LF CR after each frame", ONE + b"\n\r" + TWO + b"\n\r", [], [b"<13>1 a"], ["damaged 1 9 13", "end 1"], 1),
+    ("a nested frame, and an LF after each", NESTED + b"\n" + TWO + b"\n", [], [b"<13>1 a", b"<13>1 b"],
+     ["damaged 0 0 21", "damaged 1 30 1", "damaged 2 40 1", "end 2"], 1),
     ("as many messages as are allowed", b"X" + ONE + TWO, ["--max-messages", "2"], [b"<13>1 a", b"<13>1 b"],
      ["damaged 0 0 1", "end 2"], 1),
     ("a message too many", ONE + TWO, ["--max-messages", "1"], "F5 9", [], 2),
@@ -155,7 +168,7 @@ HEADS = [b"<13>1 - h a - - - ", b"<13>1 - - - - - - ", b"<191>999 ", b"<0>1 ", b
 # what begins like a head, and is none
 NO_HEADS = [b"<>1 ", b"<13>0 ", b"<13>1x", b"<1234>1 ", b"<13>1234 ", b"<13> 1 ", b"13>1 ", b"<13>01 ", b"<13>1", b""]
 # what logs are made of, without any order
-PIECES = [b"<13>1 ", b"<13>1 a", b"7 <13>1 a", b"7 <13>1 1", b"6 <13>1 ", b"15 <13>1 7 <13>1 a", b"1 ", b"1 <", b"0", b"07 ", b"7",
+PIECES = [b"\n", b"\n", b"\r\n", b"\r", b"<13>1 ", b"<13>1 a", b"7 <13>1 a", b"7 <13>1 1", b"6 <13>1 ", b"15 <13>1 7 <13>1 a", b"1 ", b"1 <", b"0", b"07 ", b"7",
           b"17", b"20 <", b"100 ", b"1 x", b" ", b"<", b">", b"\0\0\0", b"X", b"9999999 ", b"10000000 ", b"9999999", b"65536",
           b"65537 <"]
 
@@ -190,7 +203,7 @@ class Maker:
         text = chance.choice(HEADS) + self.octets(20)
         if chance.random() < 0.3:
             return b"%d %s" % (chance.randrange(1, 400), text)
-        return frame(text) + chance.choice([b"", b"", b"5", b"5 <", b"x"])
+        return frame(text) + chance.choice([b"", b"", b"5", b"5 <", b"x", b"\n5 <", b"\r\n5 <", b"\n"])
 
     def messages(self):
         """The messages of a log. Some were signed, and answers are kept to what is asked about them."""
@@ -239,7 +252,8 @@ class Maker:
         if chance.random() < 0.2:
             octets = b"".join(chance.choice(PIECES) for _ in range(chance.randrange(1, 60)))
         else:
-            octets = b"".join(map(frame, self.messages()))
+            newline = chance.choice([b"", b"", b"", b"", b"\n", b"\r\n"])
+            octets = b"".join(frame(it) + newline for it in self.messages())
             if chance.random() < 0.01:
                 # longer than a buffer of the program
                 octets += frame(b"<13>1 " + bytes(65000)) + octets * 3
@@ -330,10 +344,11 @@ def covered(messages, said, octets):
 
 
 # what some log has to have
+LF, CR_LF = "an LF after a frame after damage", "a CR LF after a frame after damage"
 NESTS, WHOLE = "a message after damage that nests a frame", "a whole frame that isn't read"
 DIGITS, LONG = "digits before a length, after damage", "more octets than a buffer has"
 REACHED = ["clean", "torn", "F1", "F2", "F5", "one stretch", "many stretches", "nothing is read", "a message after damage", NESTS,
-           WHOLE, "torn with the option", "refused with the option", DIGITS, LONG]
+           WHOLE, "torn with the option", "refused with the option", DIGITS, LONG, LF, CR_LF]
 
 
 def note(model, octets, limits, reached):
@@ -348,6 +363,8 @@ def note(model, octets, limits, reached):
     reached[NESTS] += any(re.search(rb".[1-9][0-9]* <[0-9]+>1 ", it) for it in after)
     reached[DIGITS] += any(re.search(rb"[1-9]$", it) for it in after[:-1])
     reached[WHOLE] += any(model.whole_at(at) is not None for _, at, _ in model.stretches)
+    for newline, kind in ((b"\n", LF), (b"\r\n", CR_LF)):
+        reached[kind] += any(octets[at:at + size] == newline for _, at, size in model.stretches[1:])
     reached["torn with the option"] += model.torn is not None
     reached["refused with the option"] += model.crowded is not None
     reached[LONG] += len(octets) > 65536

@@ -26,7 +26,8 @@ MAX_LEN = "65536"
 OPERAND = re.compile(r"(?:[A-Z][0-9]+ or )?[A-Z][0-9]+ (OFFSET|PLACE|LINE): ")
 LINE_FEED = "a line feed"
 # an LF, or a CR and an LF, where a frame should begin, and then a frame
-FED = re.compile(rb"\r?\n[1-9][0-9]{0,6} <[0-9]{1,3}>")
+NEWLINES = {b"\n": (LINE_FEED, "octet", "it"), b"\r\n": ("a CR and a line feed", "stretch", "them")}
+"""What may follow a frame, how it is named, what of the log it is, and a word for it."""
 UNEXPLAINED = "ssign refuses with a code that it doesn't explain"
 
 
@@ -151,23 +152,20 @@ def warn_of_empty(log: Log) -> None:
                    "whether something is missing")
 
 
-def warn_of_damage(log: Log) -> None:
-    """Reports what damaged octets most likely are: the front of another kind of file, or line feeds after frames."""
+def warn_of_damage(log: Log, messages: int) -> None:
+    """Reports what damaged octets most likely are: the front of another kind of file, or newlines after frames."""
     if not log.damage:
         return
     first = log.damage[0]
     cause = likely_cause(read_at(log.file, 0, FRONT)) if first.offset == 0 else None
     if cause not in (None, LINES):
         notify(f"ssign-keys: warning: {named(log.parts[0].name)}: {cause}")
-    name = log_name([it.name for it in log.parts])
-    if log.damage.octets == len(log.damage) and all(read_at(log.file, it, 1) == b"\n" for it, _ in log.damage.gaps()):
-        where = "after the last frame" if first.offset == log.size - 1 else "between frames"
-        notify(f"ssign-keys: {name}: each damaged octet is a line feed {where}. Have the log stored without it, because octets that "
-               "nobody signed are a finding")
-    elif FED.match(read_at(log.file, first.offset, FRONT)) is not None and first.offset > 0:
-        notify(f"ssign-keys: {name}: a line feed stands between two frames, as if one came after each: then hardly a frame can be read. "
-               "Have the log stored without line feeds after its frames. If no message holds a line feed, "
-               r"`sed 's/^[0-9]* //; s/\r$//'` makes one message a line of it, for --lines")
+    for newline, (what, damaged, them) in NEWLINES.items():
+        if all(size == len(newline) and read_at(log.file, it, size) == newline for it, size in log.damage.gaps()):
+            alone = first.offset + first.length == log.size
+            where = "after the last frame" if alone else "after each frame" if len(log.damage) == messages else "between frames"
+            notify(f"ssign-keys: {log_name([it.name for it in log.parts])}: each damaged {damaged} is {what} {where}. Have the log stored "
+                   f"without {them}, because octets that nobody signed are a finding")
 
 
 # ---- own words: a cause that ssign doesn't know, or options that ssign doesn't have

@@ -276,7 +276,7 @@ class Verifier:
             raise wrong(str(fault)) from fault
         if log.damage:
             self._progress.clear()
-            warn_of_damage(log)
+            warn_of_damage(log, survey.totals.messages)
         if survey.disputed:
             survey = self._survey_disputed(survey, trust)
         for sentence in [*self._known.sentences, *self._unlooked]:

@@ -24,7 +24,7 @@ const B: Want<'static> = Want::Message(b"<13>1 b");
 
 #[test]
 fn damaged_logs(rt: HostRuntime) {
-    let rows: [Row<'_>; 12] = [
+    let rows: [Row<'_>; 21] = [
         ("empty", b"", 99, 9, &[Want::Done]),
         ("whole", b"7 <13>1 a7 <13>1 b", 99, 9, &[A, B, Want::Done]),
         (
@@ -76,6 +76,84 @@ fn damaged_logs(rt: HostRuntime) {
             99,
             9,
             &[Want::Damaged(0, 10), A, B, Want::Done],
+        ),
+        (
+            "an LF after each frame",
+            b"7 <13>1 a\n7 <13>1 b\n7 <13>1 a\n",
+            99,
+            9,
+            &[
+                A,
+                Want::Damaged(9, 1),
+                B,
+                Want::Damaged(19, 1),
+                A,
+                Want::Damaged(29, 1),
+                Want::Done,
+            ],
+        ),
+        (
+            "a CR LF after each frame",
+            b"7 <13>1 a\r\n7 <13>1 b\r\n",
+            99,
+            9,
+            &[A, Want::Damaged(9, 2), B, Want::Damaged(20, 2), Want::Done],
+        ),
+        (
+            "an LF after the last frame",
+            b"7 <13>1 a7 <13>1 b\n",
+            99,
+            9,
+            &[A, B, Want::Damaged(18, 1), Want::Done],
+        ),
+        (
+            "two LFs after each frame",
+            b"7 <13>1 a\n\n7 <13>1 b\n\n7 <13>1 a\n\n",
+            99,
+            9,
+            &[A, Want::Damaged(9, 24), Want::Done],
+        ),
+        (
+            "a CR after each frame",
+            b"7 <13>1 a\r7 <13>1 b\r",
+            99,
+            9,
+            &[A, Want::Damaged(9, 11), Want::Done],
+        ),
+        (
+            "a CR at the end",
+            b"X7 <13>1 a\r",
+            99,
+            9,
+            &[Want::Damaged(0, 11), Want::Done],
+        ),
+        (
+            "a space after each frame",
+            b"7 <13>1 a 7 <13>1 b ",
+            99,
+            9,
+            &[A, Want::Damaged(9, 11), Want::Done],
+        ),
+        (
+            "a frame and an LF in a text",
+            b"19 <13>1 7 <13>1 a\n7 <7 <13>1 b",
+            99,
+            9,
+            &[Want::Message(b"<13>1 7 <13>1 a\n7 <"), B, Want::Done],
+        ),
+        (
+            "and an LF after it",
+            b"19 <13>1 7 <13>1 a\n7 <\n7 <13>1 b\n",
+            99,
+            9,
+            &[
+                Want::Damaged(0, 9),
+                A,
+                Want::Damaged(18, 5),
+                B,
+                Want::Damaged(32, 1),
+                Want::Done,
+            ],
         ),
         (
             "too long",
