@@ -377,9 +377,9 @@ def honest(number, octets=0):
     return b"<13>1 2026-11-29T00:00:00Z gate app %d - - message %d " % (number, number) + b"x" * octets
 
 
-def hostile(chance):
+def hostile(chance, newline=b""):
     """A log in which a sender's messages nest frames that reach over those of others up to its own next one, the offsets of
-    its own, and the messages of the others."""
+    its own, and the messages of the others. A newline may stand after each frame."""
     front, head = b"<13>1 - h %s - - - own " % (b"a" * chance.randrange(1, 5)), b"<13>1 - h y - - - "
     others = [[honest(100 * i + j, chance.randrange(40)) for j in range(chance.choice([1, 3, 10, 40]))]
               for i in range(chance.randrange(2, 12))]
@@ -387,16 +387,16 @@ def hostile(chance):
     # from the last one on, each nested frame ends before the length of the frame that the next one nests; what stands right
     # before the length of an honest frame may be digits of one
     texts = [front + last]
-    between = [b"".join(map(frame, it)) for it in others]
+    between = [b"".join(frame(it) + newline for it in block) for block in others]
     for block in reversed(between):
         # where the nested frame of the next message begins in it
         follows = frame(texts[0]).index(front) + len(front)
         tail = head + chance.choice([b"", b"", b"1", b"12", b"x5 <1"])
-        texts.insert(0, front + b"%d %s" % (len(tail) + len(block) + follows, tail))
+        texts.insert(0, front + b"%d %s" % (len(tail) + len(newline) + len(block) + follows, tail))
     octets, own = b"", []
     for text, block in zip(texts, [*between, b""]):
         own.append(len(octets))
-        octets += frame(text) + block
+        octets += frame(text) + newline + block
     return octets, own, [it for block in others for it in block]
 
 
@@ -425,6 +425,18 @@ def senders(program):
         tell("sender %d: each honest message is read" % seed, "" if not lost and inspected[0] == extracted[0] == 1 else
              "%d of %d aren't: %r of %r" % (sum(lost.values()), len(wanted), sorted(lost)[:3], damaged))
         hidden += end != "clean" and sum((collections.Counter(wanted) - collections.Counter(read)).values()) > 5
+    for seed in range(SENDERS):
+        chance = random.Random(seed)
+        newline = chance.choice([b"\n", b"\r\n"])
+        octets, _, wanted = hostile(chance, newline)
+        wanted += [honest(9000)]
+        octets += frame(wanted[-1]) + chance.choice([b"", newline])
+        inspected = program.say(["inspect", "--salvage"], octets)
+        count = sum(not it.startswith((b"damaged", b"torn", b"end")) for it in inspected[1].splitlines())
+        extracted = program.say(["extract", "--salvage", *places(count)], octets)
+        lost = collections.Counter(wanted) - collections.Counter(read_frames(extracted[1])[0])
+        tell("sender %d, newlines: each honest message is read" % seed, "" if not lost and inspected[0] == 1 else
+             "%d of %d aren't: %r of %r" % (sum(lost.values()), len(wanted), sorted(lost)[:3], octets))
     tell("some sender hides many messages without the option", "" if hidden > SENDERS / 3 else str(hidden))
 
 
