@@ -580,6 +580,28 @@ rm -- "$scratch/called"
 ssign "$with_rt" review --answers "$answers" <"$log"
 expect 'the run after it' 0 "$report" ''
 quiet 'the run after it'
+cat >"$scratch/from_terminal.py" <<'P'
+"""Runs the words with a terminal as standard input, on which nobody types anything but Ctrl-D."""
+import os, subprocess, sys
+ours, theirs = os.openpty()
+run = subprocess.Popen(sys.argv[1:], stdin=theirs)
+os.close(theirs)
+os.write(ours, b"\x04")
+sys.exit(run.wait(timeout=60))
+P
+waits='ssign: standard input is a terminal: this waits for what you type, up to Ctrl-D at the front of a line'
+for words in inspect 'review --salvage' 'plan --rsid 1 --payload=-'; do
+    # shellcheck disable=SC2086
+    python3 "$scratch/from_terminal.py" env PATH="$with_rt" bash "$copy/ssign" $words >"$scratch/out" 2>"$scratch/err"
+    holds "$words waits for a terminal, and says so" test "$(head -n 1 -- "$scratch/err")" = "$waits"
+done
+python3 "$scratch/from_terminal.py" env PATH="$with_rt" bash "$copy/ssign" inspect >"$scratch/out" 2>"$scratch/err"
+holds 'what is typed is the log' cmp -- "$scratch/out" <(echo 'end 0')
+for words in 'inspect --help' 'sign -h' --version 'explain F1'; do
+    # shellcheck disable=SC2086
+    python3 "$scratch/from_terminal.py" env PATH="$with_rt" bash "$copy/ssign" $words >"$scratch/out" 2>"$scratch/err"
+    holds "$words waits for nothing" test ! -s "$scratch/err"
+done
 cat >"$scratch/on_terminal.py" <<'P'
 """Runs the words on a terminal as standard error alone, and prints what came there."""
 import os, subprocess, sys
