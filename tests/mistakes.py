@@ -450,16 +450,16 @@ def warnings():
         yield verify + [name], b"", 1, "ssign-keys: %s: %s\n" % (name, GUESS)
         yield verify + ["--lines", name], b"", 1, ""
     yield verify + ["-"], b"Jan 15 x\n", 1, "ssign-keys: standard input: %s\n" % GUESS
-    fed = "ssign-keys: %s: each damaged octet is a line feed %s. Have the log stored without it, because octets that nobody signed are a finding\n"
+    fed = "ssign-keys: %s: each damaged octet is a line feed%s. Have the log stored without it, because octets that nobody signed are a finding\n"
     returned = fed.replace("octet is a line feed", "stretch is a CR and a line feed").replace("without it", "without them")
-    yield verify + ["ended"], b"", 1, fed % ("ended", "after the last frame")
-    yield verify + ["between"], b"", 1, fed % ("between", "between frames")
-    yield verify + ["returned"], b"", 1, returned % ("returned", "between frames")
-    yield verify + ["ended-crlf"], b"", 1, returned % ("ended-crlf", "after the last frame")
-    yield verify + ["fed"], b"", 1, fed % ("fed", "after each frame")
+    yield verify + ["ended"], b"", 1, fed % ("ended", " after the last frame")
+    yield verify + ["between"], b"", 1, fed % ("between", " between frames")
+    yield verify + ["returned"], b"", 1, returned % ("returned", " between frames")
+    yield verify + ["ended-crlf"], b"", 1, returned % ("ended-crlf", " after the last frame")
+    yield verify + ["fed"], b"", 1, fed % ("fed", ", one after each frame")
     # A log of one algorithm, and nothing of it but the octets after its frames is a finding: all its messages are read.
-    yield verify + ["--allow-sha1", "signed-fed"], b"", 1, fed % ("signed-fed", "after each frame")
-    yield verify + ["--allow-sha1", "signed-crlf"], b"", 1, returned % ("signed-crlf", "after each frame")
+    yield verify + ["--allow-sha1", "signed-fed"], b"", 1, fed % ("signed-fed", ", one after each frame")
+    yield verify + ["--allow-sha1", "signed-crlf"], b"", 1, returned % ("signed-crlf", ", one after each frame")
     yield verify + ["tar-of-frames"], b"", 1, said % ("tar-of-frames", "this is an archive of tar: hand over a log of it (`tar -xOf ARCHIVE LOG`)")
     part = "ssign-keys: the log may be a part of the session 'h - - 7', whose first numbers aren't in it: --from names the counters with which the " \
         "part before ends; without them, give all parts\n"

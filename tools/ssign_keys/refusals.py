@@ -163,8 +163,8 @@ def warn_of_damage(log: Log, messages: int) -> None:
     for newline, (what, damaged, them) in NEWLINES.items():
         if all(size == len(newline) and read_at(log.file, it, size) == newline for it, size in log.damage.gaps()):
             alone = first.offset + first.length == log.size
-            where = "after the last frame" if alone else "after each frame" if len(log.damage) == messages else "between frames"
-            notify(f"ssign-keys: {log_name([it.name for it in log.parts])}: each damaged {damaged} is {what} {where}. Have the log stored "
+            where = " after the last frame" if alone else ", one after each frame" if len(log.damage) == messages else " between frames"
+            notify(f"ssign-keys: {log_name([it.name for it in log.parts])}: each damaged {damaged} is {what}{where}. Have the log stored "
                    f"without {them}, because octets that nobody signed are a finding")
 
 
