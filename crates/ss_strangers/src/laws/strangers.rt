@@ -12,14 +12,14 @@ pub fn added_anywhere()
 
 /// Of each session that a given payload claims, the same is reported as without the added messages: its state and
 /// payload, its announced and disputed numbers, its holes, and what is missing up to any counters. What was listed is
-/// listed still, with an equal message. The premise is that of two messages with one announced hash both hashes are
-/// equal.
+/// listed still, with a message that has the same two hashes. The premise is that of two messages with one announced
+/// hash both hashes are equal.
 pub fn strangers_take_nothing()
     ensures { StrangersTakeNothing }
 {}
 
 /// A number whose message was missing is listed only where a message was added with the hashes of the one that is
-/// listed. The premise is that some given payload claims each session that is joined.
+/// listed. The premises are that on messages, and that some given payload claims each session that is joined.
 pub fn strangers_add_nothing()
     ensures { StrangersAddNothing }
 {}
