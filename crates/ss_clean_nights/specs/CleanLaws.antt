@@ -60,7 +60,7 @@ pub record Night : Type 0 where
 abbrev pub DontFall : (first end : List Counter) → Type 0
 DontFall first end = (s : Session) (g : Group) → kept_number first s g ≤ kept_number end s g
 
--- each night begins where the one before ended, no counter falls in it, and it is clean
+-- each night begins where the one before ended, no counter of a group falls in it, and it is clean
 abbrev pub AreCleanNights : Answers → List Counter → List Night → Type 0
 AreCleanNights says first [] = Unit {0}
 AreCleanNights says first (n ∷ ns) =

@@ -62,9 +62,9 @@ pub fn clean_nights_have_all()
     numbers_outside_are_these();
 }
 
-/// If nights follow one another, no counter falls and each night is clean, each number from the counters at which the
-/// first one begins and below those at which the last one ends is listed in exactly one of their logs. Each GBC of that
-/// kind has a verified signature block in one.
+/// If nights follow one another, no counter of a group falls and each night is clean, each number from the counters at
+/// which the first one begins and below those at which the last one ends is listed in exactly one of their logs. Each GBC
+/// of that kind has a verified signature block in one.
 pub fn clean_nights_add_up()
     ensures { CleanNightsAddUp }
 {
@@ -72,8 +72,8 @@ pub fn clean_nights_add_up()
     clean_nights_have_all();
 }
 
-/// If nights follow one another, no counter falls and each night is clean, a number that is announced is announced in
-/// one of their logs alone, and with one hash.
+/// If nights follow one another, no counter of a group falls and each night is clean, a number that is announced is
+/// announced in one of their logs alone, and with one hash.
 pub fn numbers_have_one_hash()
     ensures { NumbersHaveOneHash }
 {

@@ -11,10 +11,10 @@ use ss_clean_nights::laws::{
 };
 use ss_review::laws::reports::{announced_are_told, listed_are_assigned, one_report};
 
-/// If nights follow one another from no counter on, no counter falls and each night is clean, the log of all nights,
-/// one after another, is clean, and nothing is missing of it up to the counters at which the last night ends. It is a
-/// clean night, from no counter up to these. The premises are that no two nights join a session under different
-/// payloads, and that no two messages have one hash and differ in the other.
+/// If nights follow one another from no counter on, no counter of a group falls and each night is clean, the log of all
+/// nights, one after another, is clean, and nothing is missing of it up to the counters at which the last night ends. It
+/// is a clean night, from no counter up to these. The premises are that no two nights join a session under different
+/// payloads, and that no two messages without a block have one hash and differ in the other.
 pub fn whole_nights_are_clean()
     ensures { WholeNightsAreClean }
 {
