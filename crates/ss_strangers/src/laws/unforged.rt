@@ -37,8 +37,8 @@ pub fn only_claimants_join()
     sessions_are_joined_by_given();
 }
 
-/// The originators' payload claims the session if it is given and trusted, each fragment of it arrived, and their valid
-/// blocks are accepted.
+/// The originators' payload claims the session if it is given and trusted, each fragment of it arrived, and what they
+/// sent and the log has is accepted.
 pub fn arrived_payloads_claim()
     ensures { ArrivedPayloadsClaim }
 {
@@ -47,8 +47,8 @@ pub fn arrived_payloads_claim()
     logs_are_within();
 }
 
-/// A number is listed or a gap if the originators' payload is the only one that claims the session, their valid blocks
-/// are accepted, and one that covers the number arrived.
+/// A number is listed or a gap if the originators' payload is the only one that claims the session, what they sent and
+/// the log has is accepted, and a block among this covers the number.
 pub fn arrived_are_announced()
     ensures { ArrivedAreAnnounced }
 {
