@@ -74,7 +74,7 @@ pub record AgreeLater (says : Answers) (x : Nights) (last : ℕ) : Type 0 where
   pub collision : NoOtherWanted says x last
 
 -- What the reports of the nights alone may show: a session that is joined stays joined, no settled number is announced
--- again, and none is lost in the end.
+-- again, and no number at all is lost in the end.
 pub record ReportsShow (says : Answers) (x : Nights) (last : ℕ) : Type 0 where
   pub joined : (night later : ℕ) (s : Session) → night < later → later ≤ last
       → IsJoined says (night_log x night).blocks s → IsJoined says (night_log x later).blocks s

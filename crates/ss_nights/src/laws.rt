@@ -70,7 +70,7 @@ pub fn unlisted_of_nights()
 }
 
 /// Reports alone show all premises of `numbers_of_nights` but that on two messages with one hash. For this each joined
-/// session has to stay joined, no settled number may be reported again, and none may be lost in the end.
+/// session has to stay joined, no settled number may be reported again, and no number at all may be lost in the end.
 pub fn reports_are_enough()
     ensures { ReportsAreEnough }
 {}

@@ -47,8 +47,8 @@ pub fn runs_ahead_are_read_back()
     ahead_is_read_back();
 }
 
-/// Runs of one session that follow one another by counters files, in which the lines stand that were told ahead, are the
-/// lives of a chain that goes on ahead. So the laws of `ss_origin::laws::ahead` hold of what they write.
+/// Runs of one session that succeeded and follow one another by counters files, in which the lines stand that were told
+/// ahead, are the lives of a chain that goes on ahead. So the laws of `ss_origin::laws::ahead` hold of what they write.
 pub fn runs_by_files_go_on()
     ensures { RunsByFilesGoOn }
 {
