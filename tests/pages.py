@@ -10,6 +10,7 @@ Prints what is wrong with the pages in FOLDER, a line each. The status is then 1
     rows       each script and helper of tests/ has one row of a table in tests/README.md, and each row its file
     words      words that the glossary gives up stand nowhere but in its own column of them
     crates     each crate of crates.txt has its README, and is named in docs/ARCHITECTURE.md
+    laws       docs/LAWS.md links the name of each law to the file that states it, and names no other law
     promises   each promise of SECURITY.md names a script of tests/, and what it quotes after one stands in it or its helpers
 
 Blocks of code, which are indented by four spaces, are no text. A heading is found by the name that GitHub gives it.
@@ -39,6 +40,14 @@ ANY_NAME = re.compile(r"\b(?:NAME|FUNCTION|COMMAND)\b|(?<=/)[a-z](?=[./])")
 MADE = re.compile(r"crates/\w+/out/")
 # folders of a crate, in which a path may begin
 PARTS = ("", "src/", "specs/", "proofs/")
+LAWS = "docs/LAWS.md"
+LAW_FILES = ("crates/*/src/laws.rt", "crates/*/src/laws/*.rt")
+# a law, with the lines of its contract, and a statement that these name by a definition
+LAW = re.compile(r"\npub fn (\w+).*\n((?: {4}.*\n)*)")
+STATEMENT = re.compile(r"ensures(?: \w+)? \{ (\w*)")
+IMPORTED = re.compile(r"ghost use Rattle\.([\w.]+)\.\{([^}]*)\}")
+# the link of a law, with its module where that tells two apart
+LAW_LINK = re.compile(r"\[`(?:\w+::)?([a-z0-9_]+)`\]\(\.\./(crates/(\w+)/[^)]*)\)")
 
 
 def text_of(path):
@@ -146,6 +155,24 @@ class Repository:
                     if word in without_code(line).lower():
                         yield f"{page}:{number}: \"{word}\""
 
+    def stated_laws(self):
+        """Each law, with its crate and the file that states it: that of its definition, or its own."""
+        for path in sorted(it for pattern in LAW_FILES for it in self.names(pattern)):
+            text = text_of(self.at(path))
+            defined = {name.strip(): f"crates/{module.replace('.', '/')}.antt"
+                       for module, names in IMPORTED.findall(text) for name in names.split(",")}
+            for law, contract in LAW.findall(text):
+                for statement in STATEMENT.findall(contract) or [""]:
+                    yield law, path.split("/")[1], defined.get(statement, path)
+
+    def laws(self):
+        stated = set(self.stated_laws())
+        linked = {(law, crate, path) for law, path, crate in LAW_LINK.findall(text_of(self.at(LAWS)))}
+        for law, _, path in sorted(stated - linked):
+            yield f"{LAWS} has no link from {law} to {path}"
+        for law, crate, _ in sorted({it for it in linked if it[:2] not in {law[:2] for law in stated}}):
+            yield f"{LAWS} names {law}, which is no law of {crate}"
+
     def promises(self):
         if not self.is_there(SECURITY):
             return
@@ -191,7 +218,7 @@ def main(kind, folder):
         print("    there are no pages or no crates")
         return 1
     found = {"links": repository.links, "paths": repository.paths, "rows": repository.rows, "words": repository.words,
-             "crates": repository.crates_named, "promises": repository.promises}[kind]
+             "crates": repository.crates_named, "laws": repository.laws, "promises": repository.promises}[kind]
     faults = list(found())
     for fault in faults:
         print(f"    {fault}")

@@ -1,6 +1,7 @@
 #!/usr/bin/env bash
 # The pages, against what is there: links and headings, paths of the repository, the rows of tests/README.md, words that
-# the glossary gives up, the crates, and the tests that SECURITY.md names. pages.py does it. Each kind of fault is planted in a small repository, and found.
+# the glossary gives up, the crates, the laws of docs/LAWS.md, and the tests that SECURITY.md names. pages.py does it. Each
+# kind of fault is planted in a small repository, and found.
 # shellcheck source=tests/lib.sh disable=SC2016
 . "$(dirname -- "$0")/lib.sh"
 
@@ -9,7 +10,7 @@ faults() {
     local found
     found=$(python3 -B "$root/tests/pages.py" "$1" "$2" 2>&1) || printf '%s\n' "${found:-    pages.py failed}"
 }
-kinds=(links paths rows words crates promises)
+kinds=(links paths rows words crates laws promises)
 for kind in "${kinds[@]}"; do
     tell "the $kind of the pages" "$(faults "$kind" "$root")"
 done
@@ -18,7 +19,7 @@ done
 small=$scratch/small
 begin() {
     rm -rf -- "$small"
-    mkdir -p -- "$small"/{docs,tests,crates/ss_a/src}
+    mkdir -p -- "$small"/{docs,tests,crates/ss_a/{src/laws,specs}}
     cat >"$small/README.md" <<'S'
 # It `is` so
 
@@ -38,7 +39,21 @@ S
         >"$small/SECURITY.md"
     echo "tell 'it is' # b.py" >"$small/tests/a.sh"
     echo "tell('so')" >"$small/tests/b.py"
-    touch -- "$small/crates/ss_a/src/one.rt"
+    touch -- "$small/crates/ss_a/src/one.rt" "$small/crates/ss_a/specs/Ones.antt"
+    cat >"$small/crates/ss_a/src/laws.rt" <<'S'
+ghost use Rattle.ss_a.specs.Ones.{
+  IsOne,
+  IsTwo,
+};
+
+/// One is one.
+pub fn one_is_one<J: Seals>()
+    ensures { IsOne J.asked }
+{}
+S
+    printf '\n/// Two is more.\npub fn two_is_more()\n    ensures { 1 < 2 }\n{}\n' >"$small/crates/ss_a/src/laws/twos.rt"
+    printf '# Laws\n\n[`one_is_one`](../crates/ss_a/specs/Ones.antt) [`twos::two_is_more`](../crates/ss_a/src/laws/twos.rt)\n' \
+        >"$small/docs/LAWS.md"
 }
 begin
 for kind in "${kinds[@]}"; do
@@ -92,6 +107,15 @@ mkdir -- "$small/crates/ss_b" && touch -- "$small/crates/ss_b/README.md"
 finds 'a crate that the architecture does not name' crates "docs/ARCHITECTURE.md doesn't name \`ss_b\`"
 mkdir -- "$small/crates/ss_b"
 finds 'a folder that is no crate' crates "crates.txt doesn't name crates/ss_b"
+printf '\n/// Two is two.\npub fn two_is_two()\n    ensures { IsTwo }\n{}\n' >>"$small/crates/ss_a/src/laws.rt"
+finds 'a law that the page does not name' laws 'docs/LAWS.md has no link from two_is_two to crates/ss_a/specs/Ones.antt'
+sed -i 's/specs\.Ones/specs.Others/' "$small/crates/ss_a/src/laws.rt"
+finds 'a law that is stated in another file' laws 'docs/LAWS.md has no link from one_is_one to crates/ss_a/specs/Others.antt'
+echo '[`two_is_one`](../crates/ss_a/specs/Ones.antt)' >>"$small/docs/LAWS.md"
+finds 'a law that is not there' laws 'docs/LAWS.md names two_is_one, which is no law of ss_a'
+rm -- "$small/docs/LAWS.md"
+holds 'no page of laws' grep -q 'pages.py failed\|No such file' <(faults laws "$small")
+begin
 echo '- It is not.' >>"$small/SECURITY.md"
 finds 'a promise without a test' promises 'SECURITY.md:8: no test is named'
 sed -i 's/"so"/"sos"/' "$small/SECURITY.md"
