@@ -1,5 +1,5 @@
 #!/usr/bin/env python3
-"""What `ssign review --from FILE` reports about one night of a session that goes on, by the definition in docs/FORMATS.md.
+"""What `ssign review --from FILE` reports about one night of a session that goes on, by the definition in docs/dev/FORMATS.md.
 
     between.py model             the model alone, over the logs that were worked out by hand and over 12,000 nights by a seed
     between.py compare PROGRAM   and the program, over these

@@ -362,8 +362,8 @@ def forms(bench):
 
 
 def documents():
-    """The table of docs/FORMATS.md has each kind of finding, in the order of the program, and no other."""
-    text = read(f"{world.ROOT}/docs/FORMATS.md").decode().partition("## Findings of a check\n")[2].partition("\n## ")[0]
+    """The table of docs/dev/FORMATS.md has each kind of finding, in the order of the program, and no other."""
+    text = read(f"{world.ROOT}/docs/dev/FORMATS.md").decode().partition("## Findings of a check\n")[2].partition("\n## ")[0]
     rows = [it for it in text.splitlines() if it.startswith("| `")]
     wanted = [f"| `{kind}` | {it.means} | {it.act[0].upper()}{it.act[1:]}. |" for kind, it in KINDS.items()]
     tell("the table of findings", "" if rows == wanted else f"{rows}\n    and not {wanted}")

@@ -1,6 +1,6 @@
 """A small world for the tests of `ssign-keys check`: two originators with their keys, signed files and logs.
 
-Signed files are made by `ssign-keys sign` of a chain message and lines, whose text stands in docs/FORMATS.md ("A chain").
+Signed files are made by `ssign-keys sign` of a chain message and lines, whose text stands in docs/dev/FORMATS.md ("A chain").
 Each run of a tool is a process that is forked, because to start an interpreter takes longer than most checks.
 """
 import hashlib

@@ -2,7 +2,7 @@
 
 Each function takes a count and gives an `Input`, which has what commands have to say of it: the status, and how many
 lines of each first word there are, or for `extract`, `carry` and `sign` how many frames. That shows that the input is what its
-name says. All of it was worked out from docs/FORMATS.md.
+name says. All of it was worked out from docs/dev/FORMATS.md.
 """
 import hashlib
 import random

@@ -1,4 +1,4 @@
-"""A second reader of the signed files of a folder, by docs/FORMATS.md: it shares nothing with the tools.
+"""A second reader of the signed files of a folder, by docs/dev/FORMATS.md: it shares nothing with the tools.
 
 `read_folder` gives them in the order of their RSID, and raises Wrong where one isn't as it has to be.
 """

@@ -146,7 +146,7 @@ def forked(box):
 
 
 def forged(name, rsid, before=None):
-    """A file with a link that nobody signed, by docs/FORMATS.md."""
+    """A file with a link that nobody signed, by docs/dev/FORMATS.md."""
     def act(box):
         text = {"aside": None, "before": before and {"name": before[0], "rsid": before[1], "sha256": 64 * "0"}, "format": 1, "log": None, "rsid": rsid}
         message = b"<110>1 2026-11-30T04:00:00Z gate ssign - chain - " + json.dumps(text, sort_keys=True, separators=(",", ":")).encode()

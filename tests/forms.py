@@ -1,6 +1,6 @@
 #!/usr/bin/env python3
 """The forms of a review, an inspection, questions and counters: each line of JSON, read by Python's `json` and spelled as
-docs/FORMATS.md has it, is the plain line. The findings are the plain text without its `ok` or `plain` lines. And the
+docs/dev/FORMATS.md has it, is the plain line. The findings are the plain text without its `ok` or `plain` lines. And the
 status is the same in every form.
 
     forms.py PROGRAM

@@ -75,8 +75,8 @@ wanted=(bin/ssign bin/ssign-keys share/suhvatek/ssign-keys share/suhvatek/ssign_
     share/bash-completion/completions/ssign share/bash-completion/completions/ssign-keys
     share/zsh/site-functions/_ssign share/zsh/site-functions/_ssign-keys
     share/fish/vendor_completions.d/ssign.fish share/fish/vendor_completions.d/ssign-keys.fish
-    share/doc/suhvatek/{README,SECURITY,CHANGELOG}.md share/doc/suhvatek/docs/{guide,FORMATS,PROOFS,messages,scale}.md
-    share/doc/suhvatek/docs/{DECISIONS,decisions/formats}.md
+    share/doc/suhvatek/{README,SECURITY,CHANGELOG}.md share/doc/suhvatek/docs/{guide,messages,scale}.md
+    share/doc/suhvatek/docs/dev/{FORMATS,PROOFS,DECISIONS,decisions/formats}.md
     share/doc/suhvatek/examples/signed/signed.frames share/doc/suhvatek/examples/systemd/ssign-sign.service
     share/doc/suhvatek/examples/rsyslog/ssign-live.conf
     share/doc/suhvatek/examples/syslog-ng/ssign-live.conf share/doc/suhvatek/examples/systemd/ssign-live.service share/doc/suhvatek/examples/lost-block.counters

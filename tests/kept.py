@@ -1,5 +1,5 @@
 #!/usr/bin/env python3
-"""What `ssign review --counters FILE` says is missing up to counters that were kept, by the definition in docs/FORMATS.md.
+"""What `ssign review --counters FILE` says is missing up to counters that were kept, by the definition in docs/dev/FORMATS.md.
 
     kept.py model             the model alone, over the logs that were worked out by hand and over logs by a seed
     kept.py compare PROGRAM   and the program, over these and over each part of an originator's log

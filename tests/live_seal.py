@@ -4,7 +4,7 @@ lines, hostile names, kills and full disks; and a seal command whose connection 
 
     live_seal.py SSIGN KEYS [CHECKS..]
 
-KEYS is a folder of `ssign-keys make`, and CHECKS are names of functions; without them all are made. What is wanted is the rule of docs/FORMATS.md, "What was sealed": no two answers for other
+KEYS is a folder of `ssign-keys make`, and CHECKS are names of functions; without them all are made. What is wanted is the rule of docs/dev/FORMATS.md, "What was sealed": no two answers for other
 octets with one GBC or one number of a session. The last line is `live_seal: N passed, M failed`.
 """
 import base64

@@ -112,14 +112,14 @@ else
     holds 'ssign.1 has the codes of explain' test "$(awk '/^CODES/ { on = 1; next } /^[^ ]/ { on = 0 } on' "$scratch/ssign.1.txt" |
         tail -n +2 | tr -s ' \n' '  ' | sed 's/^.*words: //; s/^ //; s/ $//')" = "$codes"
 
-    # lines of docs/FORMATS.md
+    # lines of docs/dev/FORMATS.md
     for words in 'trust PAYLOAD' 'yes PAYLOAD OCTETS SIGNATURE' 'seal OCTETS SIGNATURE' 'want OCTETS'; do
         holds "ssign-answers.5 has a line $words" grep -Eqx " {7}$words" "$scratch/ssign-answers.5.txt"
     done
     while IFS= read -r line; do
         line=${line#'| `'}
         holds "ssign-report.5 has a line ${line%%'`'*}" grep -qE "^ {7}${line%%'`'*}( |\$)" "$scratch/ssign-report.5.txt"
-    done < <(awk '/^## A report$/ { on = 1; next } /^## / { on = 0 } on && /^\| `/' "$root/docs/FORMATS.md")
+    done < <(awk '/^## A report$/ { on = 1; next } /^## / { on = 0 } on && /^\| `/' "$root/docs/dev/FORMATS.md")
 fi
 
 if command -v mandoc >"$scratch/out"; then

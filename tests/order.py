@@ -1,5 +1,5 @@
 #!/usr/bin/env python3
-"""What `ssign review --in-order` and `--not-empty` add to a report, by the definition in docs/FORMATS.md.
+"""What `ssign review --in-order` and `--not-empty` add to a report, by the definition in docs/dev/FORMATS.md.
 
     order.py PROGRAM
 

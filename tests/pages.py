@@ -9,8 +9,8 @@ Prints what is wrong with the pages in FOLDER, a line each. The status is then 1
     paths      each path of the repository between backquotes is there
     rows       each script and helper of tests/ has one row of a table in tests/README.md, and each row its file
     words      words that the glossary gives up stand nowhere but in its own column of them
-    crates     each crate of crates.txt has its README, and is named in docs/ARCHITECTURE.md
-    laws       docs/LAWS.md links the name of each law to the file that states it, and names no other law
+    crates     each crate of crates.txt has its README, and is named in docs/dev/ARCHITECTURE.md
+    laws       docs/dev/LAWS.md links the name of each law to the file that states it, and names no other law
     promises   each promise of SECURITY.md names a script of tests/, and what it quotes after one stands in it or its helpers
 
 Blocks of code, which are indented by four spaces, are no text. A heading is found by the name that GitHub gives it.
@@ -21,9 +21,9 @@ import re
 import sys
 from collections import Counter
 
-PAGES = ("README.md", "CONTRIBUTING.md", "SECURITY.md", "docs/*.md", "docs/decisions/*.md", "tests/README.md",
-         "mutants/README.md", "examples/README.md", "crates/*/README.md")
-GLOSSARY = "docs/glossary.md"
+PAGES = ("README.md", "SECURITY.md", "docs/*.md", "docs/user/*.md", "docs/user/*/*.md", "docs/dev/*.md",
+         "docs/dev/decisions/*.md", "tests/README.md", "mutants/README.md", "examples/README.md", "crates/*/README.md")
+GLOSSARY = "docs/dev/glossary.md"
 # the glossary's words for these: out of memory, reports, is refused or reported as, because
 GIVEN_UP = ("want of memory", "says of", "is told as", "has it that")
 LINK = re.compile(r"\[[^\]]*\]\(([^()\s]*)\)")
@@ -40,14 +40,14 @@ ANY_NAME = re.compile(r"\b(?:NAME|FUNCTION|COMMAND)\b|(?<=/)[a-z](?=[./])")
 MADE = re.compile(r"crates/\w+/out/")
 # folders of a crate, in which a path may begin
 PARTS = ("", "src/", "specs/", "proofs/")
-LAWS = "docs/LAWS.md"
+LAWS = "docs/dev/LAWS.md"
 LAW_FILES = ("crates/*/src/laws.rt", "crates/*/src/laws/*.rt")
 # a law, with the lines of its contract, and a statement that these name by a definition
 LAW = re.compile(r"\npub fn (\w+).*\n((?: {4}.*\n)*)")
 STATEMENT = re.compile(r"ensures(?: \w+)? \{ (\w*)")
 IMPORTED = re.compile(r"ghost use Rattle\.([\w.]+)\.\{([^}]*)\}")
 # the link of a law, with its module where that tells two apart
-LAW_LINK = re.compile(r"\[`(?:\w+::)?([a-z0-9_]+)`\]\(\.\./(crates/(\w+)/[^)]*)\)")
+LAW_LINK = re.compile(r"\[`(?:\w+::)?([a-z0-9_]+)`\]\(\.\./\.\./(crates/(\w+)/[^)]*)\)")
 
 
 def text_of(path):
@@ -201,12 +201,12 @@ class Repository:
         return "\n".join(texts)
 
     def crates_named(self):
-        named = set(re.findall("`(\\w+)`", text_of(self.at("docs/ARCHITECTURE.md"))))
+        named = set(re.findall("`(\\w+)`", text_of(self.at("docs/dev/ARCHITECTURE.md"))))
         for crate in self.crates:
             if not self.is_there("crates", crate, "README.md"):
                 yield f"crates/{crate} has no README.md"
             if crate not in named:
-                yield f"docs/ARCHITECTURE.md doesn't name `{crate}`"
+                yield f"docs/dev/ARCHITECTURE.md doesn't name `{crate}`"
         for folder in self.names("crates/*"):
             if os.path.basename(folder) not in self.crates:
                 yield f"crates.txt doesn't name {folder}"

@@ -1,6 +1,6 @@
 #!/usr/bin/env bash
 # The pages, against what is there: links and headings, paths of the repository, the rows of tests/README.md, words that
-# the glossary gives up, the crates, the laws of docs/LAWS.md, and the tests that SECURITY.md names. pages.py does it. Each
+# the glossary gives up, the crates, the laws of docs/dev/LAWS.md, and the tests that SECURITY.md names. pages.py does it. Each
 # kind of fault is planted in a small repository, and found.
 # shellcheck source=tests/lib.sh disable=SC2016
 . "$(dirname -- "$0")/lib.sh"
@@ -19,7 +19,7 @@ done
 small=$scratch/small
 begin() {
     rm -rf -- "$small"
-    mkdir -p -- "$small"/{docs,tests,crates/ss_a/{src/laws,specs}}
+    mkdir -p -- "$small"/{docs/dev,tests,crates/ss_a/{src/laws,specs}}
     cat >"$small/README.md" <<'S'
 # It `is` so
 
@@ -30,8 +30,8 @@ Code is in `crates/ss_a/src/one.rt`, `crates/NAME/src/one.rt`, `src/one.rt` and 
     [no link](none.md), `docs/none.md`, want of memory
 S
     printf '# Guide\n\n## Its end\n\n## Its end\n\n[back](../README.md) to `docs/guide.md`\n' >"$small/docs/guide.md"
-    printf '# Words\n\n| Word | Not |\n|---|---|\n| out of memory | want of memory |\n' >"$small/docs/glossary.md"
-    printf '# Parts\n\n`ss_a` is one.\n' >"$small/docs/ARCHITECTURE.md"
+    printf '# Words\n\n| Word | Not |\n|---|---|\n| out of memory | want of memory |\n' >"$small/docs/dev/glossary.md"
+    printf '# Parts\n\n`ss_a` is one.\n' >"$small/docs/dev/ARCHITECTURE.md"
     printf '# Tests\n\n| `a.sh`, `b.py` | tests |\n' >"$small/tests/README.md"
     printf '# a\n\nIts `src/one.rt`.\n' >"$small/crates/ss_a/README.md"
     printf '# Each crate\nss_a: itoa\n' >"$small/crates.txt"
@@ -52,8 +52,8 @@ pub fn one_is_one<J: Seals>()
 {}
 S
     printf '\n/// Two is more.\npub fn two_is_more()\n    ensures { 1 < 2 }\n{}\n' >"$small/crates/ss_a/src/laws/twos.rt"
-    printf '# Laws\n\n[`one_is_one`](../crates/ss_a/specs/Ones.antt) [`twos::two_is_more`](../crates/ss_a/src/laws/twos.rt)\n' \
-        >"$small/docs/LAWS.md"
+    printf '# Laws\n\n[`one_is_one`](../../crates/ss_a/specs/Ones.antt) [`twos::two_is_more`](../../crates/ss_a/src/laws/twos.rt)\n' \
+        >"$small/docs/dev/LAWS.md"
 }
 begin
 for kind in "${kinds[@]}"; do
@@ -98,22 +98,22 @@ for word in 'want of memory' 'Says of' 'is told as' 'has it that'; do
     echo "It $word it." >>"$small/crates/ss_a/README.md"
     finds "the words $word" words "crates/ss_a/README.md:4: \"${word,,}\""
 done
-echo '| want of memory | memory |' >>"$small/docs/glossary.md"
-finds 'a word that the glossary gives up, in another column' words 'docs/glossary.md:6: "want of memory"'
+echo '| want of memory | memory |' >>"$small/docs/dev/glossary.md"
+finds 'a word that the glossary gives up, in another column' words 'docs/dev/glossary.md:6: "want of memory"'
 rm -- "$small/crates/ss_a/README.md"
 finds 'a crate without a README' crates 'crates/ss_a has no README.md'
 echo 'ss_b: ss_a' >>"$small/crates.txt"
 mkdir -- "$small/crates/ss_b" && touch -- "$small/crates/ss_b/README.md"
-finds 'a crate that the architecture does not name' crates "docs/ARCHITECTURE.md doesn't name \`ss_b\`"
+finds 'a crate that the architecture does not name' crates "docs/dev/ARCHITECTURE.md doesn't name \`ss_b\`"
 mkdir -- "$small/crates/ss_b"
 finds 'a folder that is no crate' crates "crates.txt doesn't name crates/ss_b"
 printf '\n/// Two is two.\npub fn two_is_two()\n    ensures { IsTwo }\n{}\n' >>"$small/crates/ss_a/src/laws.rt"
-finds 'a law that the page does not name' laws 'docs/LAWS.md has no link from two_is_two to crates/ss_a/specs/Ones.antt'
+finds 'a law that the page does not name' laws 'docs/dev/LAWS.md has no link from two_is_two to crates/ss_a/specs/Ones.antt'
 sed -i 's/specs\.Ones/specs.Others/' "$small/crates/ss_a/src/laws.rt"
-finds 'a law that is stated in another file' laws 'docs/LAWS.md has no link from one_is_one to crates/ss_a/specs/Others.antt'
-echo '[`two_is_one`](../crates/ss_a/specs/Ones.antt)' >>"$small/docs/LAWS.md"
-finds 'a law that is not there' laws 'docs/LAWS.md names two_is_one, which is no law of ss_a'
-rm -- "$small/docs/LAWS.md"
+finds 'a law that is stated in another file' laws 'docs/dev/LAWS.md has no link from one_is_one to crates/ss_a/specs/Others.antt'
+echo '[`two_is_one`](../../crates/ss_a/specs/Ones.antt)' >>"$small/docs/dev/LAWS.md"
+finds 'a law that is not there' laws 'docs/dev/LAWS.md names two_is_one, which is no law of ss_a'
+rm -- "$small/docs/dev/LAWS.md"
 holds 'no page of laws' grep -q 'pages.py failed\|No such file' <(faults laws "$small")
 begin
 echo '- It is not.' >>"$small/SECURITY.md"

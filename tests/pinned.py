@@ -1,6 +1,6 @@
 #!/usr/bin/env python3
 """What `ssign` makes of a log if payloads are known beforehand: its option `--pinned`, by the definitions of
-docs/FORMATS.md and the model of review_model.py.
+docs/dev/FORMATS.md and the model of review_model.py.
 
     pinned.py model [COUNT]             the model alone, over the logs by hand and COUNT by a seed, 10,000 without a number
     pinned.py compare PROGRAM [COUNT]   and each command of the program that has the option, octet for octet

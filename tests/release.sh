@@ -1,6 +1,6 @@
 #!/usr/bin/env bash
 # The recorded build of release/: its text is whole, it is of the sources at hand, it was built by the toolchain that
-# docs/PROOFS.md names, and it has the SHA-256 that the text gives. The program that was built here has to be the same,
+# docs/dev/PROOFS.md names, and it has the SHA-256 that the text gives. The program that was built here has to be the same,
 # octet for octet, whichever toolchain built it. If CI is set, another one fails, because what is published has to be
 # compared. Elsewhere another one gives a warning if the toolchain is the recorded one, because what was proved here is
 # the one here. Another toolchain may well make another program, so then it is only reported that they differ.
@@ -37,7 +37,7 @@ tell 'the recorded build is of these sources' "$fault"
 fault=$(differ 'SHA-256 of the program' "$(sum_of "$recorded")" "$(fact program)")
 tell 'the recorded program is the one that the text speaks of' "$fault"
 holds 'the recorded program may be executed' test -x "$recorded"
-holds "docs/PROOFS.md names the toolchain of the recorded build, $toolchain" grep -qF -- "\`$toolchain\`" "$root/docs/PROOFS.md"
+holds "docs/dev/PROOFS.md names the toolchain of the recorded build, $toolchain" grep -qF -- "\`$toolchain\`" "$root/docs/dev/PROOFS.md"
 
 # what rt complains of beside its version is no part of it
 here=$(rt version </dev/null 2>"$scratch/fault") || here='a toolchain without the command rt in PATH'

@@ -9,7 +9,7 @@ SESSION = ["host", "app", "procid", "rsid"]
 GROUP = [*SESSION, "sg", "spri"]
 # what a question is about: the payload, or with `--once` its index
 ABOUT = ["payload", "payload_index"]
-# the keys of each line of a report, in their order, as docs/FORMATS.md has them
+# the keys of each line of a report, in their order, as docs/dev/FORMATS.md has them
 KEYS = {
     "session": [*SESSION, "state"],
     "ok": [*GROUP, "number", "place"],

@@ -32,7 +32,7 @@ def tell(what, fault):
 
 
 def link_of(rsid, before, name, log, changed):
-    """The message of a link, by docs/FORMATS.md."""
+    """The message of a link, by docs/dev/FORMATS.md."""
     stamp = time.strftime("%Y-%m-%dT%H:%M:%SZ", time.gmtime(rsid))
     text = {"aside": None, "before": before, "format": 1, "rsid": rsid,
             "log": {"changed": changed, "empty": 0, "end": len(log), "name": name, "sha256": hashlib.sha256(log).hexdigest(), "start": 0}}

@@ -75,9 +75,9 @@ built() {
 # nothing of the one in release/, which tests/release.sh looks at.
 recorded=$copy/release/ssign-x86_64-linux
 cp -a -- "$sources" "$with_release"
-mkdir -- "$with_release/tests" "$with_release/docs"
+mkdir -p -- "$with_release/tests" "$with_release/docs/dev"
 # shellcheck disable=SC2016 # backquotes of a page
-printf 'It was proved with `%s`.\n' "$toolchain" >"$with_release/docs/PROOFS.md"
+printf 'It was proved with `%s`.\n' "$toolchain" >"$with_release/docs/dev/PROOFS.md"
 cp -- "$root/tests/lib.sh" "$root/tests/release.sh" "$with_release/tests/"
 cp -- "$program" "$with_release/release/ssign-x86_64-linux"
 chmod 755 -- "$with_release/release/ssign-x86_64-linux"
@@ -752,11 +752,11 @@ gate_says 'the gate over another program, where CI is set' 1 "$both"
 sed -i 's/^toolchain .*/toolchain another/' "$recorded.txt"
 gate
 gate_says 'the gate over another toolchain, elsewhere' 1 "another toolchain made: another, and here $toolchain"
-gate_says 'the gate over a toolchain that no page names' 1 'docs/PROOFS.md names the toolchain'
+gate_says 'the gate over a toolchain that no page names' 1 'docs/dev/PROOFS.md names the toolchain'
 gate CI=true
 gate_says 'the gate over another toolchain, where CI is set' 1 "SHA-256 of the program that $toolchain built: $both"
 # shellcheck disable=SC2016 # backquotes of a page
-echo 'It was proved with `another`.' >"$copy/docs/PROOFS.md"
+echo 'It was proved with `another`.' >"$copy/docs/dev/PROOFS.md"
 gate
 gate_says 'the gate over another toolchain that the page names' 0 "another toolchain made: another, and here $toolchain"
 gate CI=true

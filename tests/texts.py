@@ -163,7 +163,7 @@ NO_STAMPS = (
     b'+023-01-01T00:00:00Z',
 )
 
-# a parameter, the cause that makes a block with each of these values spoilt (docs/FORMATS.md), or None, and the values
+# a parameter, the cause that makes a block with each of these values spoilt (docs/dev/FORMATS.md), or None, and the values
 SIGNATURE_VALUES = (
     ("VER", None, (
         b'0111',

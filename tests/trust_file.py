@@ -1,5 +1,5 @@
 #!/usr/bin/env python3
-"""Cases of trust files, each with what has to come of it, written by hand from docs/FORMATS.md, "A trust file".
+"""Cases of trust files, each with what has to come of it, written by hand from docs/dev/FORMATS.md, "A trust file".
 
     trust_file.py TOOLS       in a folder of its own; the program is that of the variable SSIGN
 

@@ -85,7 +85,7 @@ not_taken() {
         tell "$1" "    status $status: $(head -c 700 out) $(head -c 300 err)"$'\n'"    and not: $2"
 }
 
-# is_session FILE NAME=VALUE..: the one session of this JSON has these values; none stands for null. What docs/FORMATS.md says
+# is_session FILE NAME=VALUE..: the one session of this JSON has these values; none stands for null. What docs/dev/FORMATS.md says
 # of the members is read, and not how they are spelled or in which order they stand.
 is_session() {
     python3 -B - "$@" <<'END'

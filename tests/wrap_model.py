@@ -1,4 +1,4 @@
-"""Wraps, a second time: docs/decisions/signing.md, number 156, in plain Python, with nothing of the crate in it.
+"""Wraps, a second time: docs/dev/decisions/signing.md, number 156, in plain Python, with nothing of the crate in it.
 
 A message that can't be signed is signed in a message of its own. `prepared` gives what is signed for a message, `original`
 the message that is in a text.

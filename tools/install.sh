@@ -96,7 +96,8 @@ list_files() {
     done
     put_all "$documents" "$root"/{README,CHANGELOG,SECURITY}.md
     put_all "$documents/docs" "$root"/docs/*.md
-    put_all "$documents/docs/decisions" "$root"/docs/decisions/*.md
+    put_all "$documents/docs/dev" "$root"/docs/dev/*.md
+    put_all "$documents/docs/dev/decisions" "$root"/docs/dev/decisions/*.md
     put_all "$documents/examples" "$root"/examples/*.{md,frames,answers,counters,log,seals}
     put_all "$documents/examples/producers" "$root"/examples/producers/*
     put_all "$documents/examples/signed" "$root"/examples/signed/*

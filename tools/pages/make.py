@@ -37,7 +37,7 @@ def read_programs() -> Dict[str, Program]:
 def make_all() -> Dict[str, str]:
     """The text of each file, under its name in the repository."""
     programs = read_programs()
-    formats = read("docs", "FORMATS.md")
+    formats = read("docs", "dev", "FORMATS.md")
     version = programs["ssign"].version
     made = {f"man/{name}": page(name, read("man", f"{name}.md"), programs[of], version, formats) for name, of in PAGES.items()}
     made["docs/guide.md"] = with_codes(read("docs", "guide.md"), programs["ssign"])

@@ -1,4 +1,4 @@
-"""Manual pages: a text of man/*.md, with the commands of a program and sections of docs/FORMATS.md in it."""
+"""Manual pages: a text of man/*.md, with the commands of a program and sections of docs/dev/FORMATS.md in it."""
 from __future__ import annotations
 
 import re
@@ -57,10 +57,10 @@ def sentence(text: str) -> str:
 
 
 def format_section(formats: str, name: str) -> str:
-    """A section of docs/FORMATS.md, from its heading up to the next one of its rank."""
+    """A section of docs/dev/FORMATS.md, from its heading up to the next one of its rank."""
     found = re.search(rf"^(##+) {re.escape(name)}\n", formats, re.M)
     if found is None:
-        raise Unreadable(f"docs/FORMATS.md has no section {name}")
+        raise Unreadable(f"docs/dev/FORMATS.md has no section {name}")
     rest = formats[found.end():]
     end = re.search(rf"^#{{2,{len(found[1])}}} ", rest, re.M)
     body = rest[:end.start()] if end else rest
@@ -88,7 +88,7 @@ def page(name: str, text: str, program: Program, version: str, formats: str) -> 
     """The page `ssign.1` of the text of `ssign.1.md`."""
     title, _, section = name.rpartition(".")
     filled = PART.sub(lambda found: fill(found[1], program, formats), text)
-    made = [f".\\\" Made by tools/make-pages from --help, man/{name}.md and docs/FORMATS.md.",
+    made = [f".\\\" Made by tools/make-pages from --help, man/{name}.md and docs/dev/FORMATS.md.",
             f".TH {plain(title.upper())} {section} {DATE} {quoted(version)} {quoted('Suhvatek')}",
             ".nh", ".ad l"]
     return "\n".join(tidy(made + roff(filled))) + "\n"

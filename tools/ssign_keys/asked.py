@@ -1,4 +1,4 @@
-"""Reads single lines of questions, in each form in which `ssign questions` writes them (docs/FORMATS.md, "Questions")."""
+"""Reads single lines of questions, in each form in which `ssign questions` writes them (docs/dev/FORMATS.md, "Questions")."""
 from __future__ import annotations
 
 import json

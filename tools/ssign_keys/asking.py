@@ -1,4 +1,4 @@
-"""One run of `ssign review --ask`: it reads the log, asks, is answered, and reports (docs/FORMATS.md, "Questions").
+"""One run of `ssign review --ask`: it reads the log, asks, is answered, and reports (docs/dev/FORMATS.md, "Questions").
 
 The log, the questions and the answers go through named pipes. At these each side sees when the other opens and closes its end.
 So nobody waits for a run that has ended, and a run that doesn't keep this order is refused.

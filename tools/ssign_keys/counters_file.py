@@ -1,4 +1,4 @@
-"""A counters file as octets: lines `count`, and a last one that says how many they are (docs/FORMATS.md, "A counters file")."""
+"""A counters file as octets: lines `count`, and a last one that says how many they are (docs/dev/FORMATS.md, "A counters file")."""
 from __future__ import annotations
 
 from typing import List

@@ -1,4 +1,4 @@
-"""Writes a report for programs: one object of JSON a line (docs/FORMATS.md, "A verdict as JSON")."""
+"""Writes a report for programs: one object of JSON a line (docs/dev/FORMATS.md, "A verdict as JSON")."""
 from __future__ import annotations
 
 from typing import BinaryIO, Dict, Optional, Sequence, Union

@@ -1,4 +1,4 @@
-"""Counters that somebody kept: the file that `ssign review --counters` reads (docs/FORMATS.md, "A counters file").
+"""Counters that somebody kept: the file that `ssign review --counters` reads (docs/dev/FORMATS.md, "A counters file").
 
 What is missing up to them, ssign reports. They are read here too, since a report doesn't say how far they go.
 """

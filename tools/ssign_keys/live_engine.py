@@ -232,7 +232,7 @@ def answers_of(wants: Sequence[bytes], signatures: Sequence[bytes]) -> bytes:
 
 
 def block_of(want: bytes, signature: bytes) -> bytes:
-    """The block for which this was wanted, with its signature (docs/FORMATS.md, "What is signed")."""
+    """The block for which this was wanted, with its signature (docs/dev/FORMATS.md, "What is signed")."""
     octets = decode(want) or b""
     return b'%s SIGN="%s"]' % (octets[:-1], signature)
 

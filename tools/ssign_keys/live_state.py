@@ -1,4 +1,4 @@
-"""The state of `ssign-keys live` as a file (docs/FORMATS.md, "A session that is signed as messages come").
+"""The state of `ssign-keys live` as a file (docs/dev/FORMATS.md, "A session that is signed as messages come").
 
 It says what is written next, before that is written. Two files take turns, and each is written over in place: so one of
 them is whole wherever the machine stops. What a longer text left after the last line is no part of it.

@@ -22,7 +22,7 @@ def is_surely_none(message: bytes) -> bool:
 
 
 def wrap_of(options: Mapping[str, str], stamp: str, message: bytes) -> bytes:
-    """The wrap of a message, by the options of a session (docs/FORMATS.md, "An extract")."""
+    """The wrap of a message, by the options of a session (docs/dev/FORMATS.md, "An extract")."""
     found = PRI.match(message)
     pri = int(found[1]) if found is not None else USUAL_PRI
     head = (f"<{pri if pri <= GREATEST_PRI else USUAL_PRI}>1 {stamp} {options['host']} {options['app']} {options['procid']} "

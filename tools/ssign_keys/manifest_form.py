@@ -1,4 +1,4 @@
-"""A manifest: a line of JSON for each signed log, and for each copy of one (docs/FORMATS.md, "A manifest").
+"""A manifest: a line of JSON for each signed log, and for each copy of one (docs/dev/FORMATS.md, "A manifest").
 
 Each line holds its number, and the hash of the line before.
 """

@@ -1,4 +1,4 @@
-"""Reads the report of `ssign review` from its file, line by line, without keeping it (docs/FORMATS.md, "A report", "A tally",
+"""Reads the report of `ssign review` from its file, line by line, without keeping it (docs/dev/FORMATS.md, "A report", "A tally",
 "A report as JSON"). The values of an object stand in the order of the words of a line, so both forms are read alike.
 
 Nothing is decided about a message here: what is counted are the lines. The program is trusted. What it can't have written isn't

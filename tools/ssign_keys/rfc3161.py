@@ -350,7 +350,7 @@ def check_stamp(octets: bytes, name: str, wanted: Dict[str, str], authorities: A
     """The time stamp that an answer is, where it is of one of the wanted files, and one of these authorities vouches for it.
 
     `wanted` has the SHA-256 of each file, by a word of THESE. `name` is the file of the answer. `query` is the path of the
-    request that was sent, where that is known: the stamp has to be new then. Raises Fault with T1 to T4 (docs/FORMATS.md, "A
+    request that was sent, where that is known: the stamp has to be new then. Raises Fault with T1 to T4 (docs/dev/FORMATS.md, "A
     time stamp").
     """
     shown = shown_name(name)

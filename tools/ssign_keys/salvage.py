@@ -1,4 +1,4 @@
-"""Reads which octets are damaged, as `ssign inspect --salvage` says it (docs/FORMATS.md, "An inspection")."""
+"""Reads which octets are damaged, as `ssign inspect --salvage` says it (docs/dev/FORMATS.md, "An inspection")."""
 from __future__ import annotations
 
 from typing import Iterable, NamedTuple, Optional

@@ -1,4 +1,4 @@
-"""A session of `ssign-keys sign --state` as a file: what goes on from run to run (docs/FORMATS.md, "A session that goes on").
+"""A session of `ssign-keys sign --state` as a file: what goes on from run to run (docs/dev/FORMATS.md, "A session that goes on").
 
 The file is read by the rule that it is spelled in one way only: whatever was cut, doubled or changed is refused.
 """

@@ -65,7 +65,7 @@ def refuse_lone(arguments: argparse.Namespace) -> None:
 
 def check_stamps(arguments: argparse.Namespace, counters: Optional[Digest], manifest: Optional[Digest],
                  workplace: Workplace) -> Stamps:
-    """The time stamps, where all of them hold of these files as they were read. Raises Fault with T1 to T4 (docs/FORMATS.md,
+    """The time stamps, where all of them hold of these files as they were read. Raises Fault with T1 to T4 (docs/dev/FORMATS.md,
     "A time stamp")."""
     if not arguments.stamped:
         return NONE

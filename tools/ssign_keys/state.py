@@ -1,4 +1,4 @@
-"""The state file of `ssign-keys seal`: what was sealed, from run to run (docs/FORMATS.md, "What was sealed").
+"""The state file of `ssign-keys seal`: what was sealed, from run to run (docs/dev/FORMATS.md, "What was sealed").
 
 It is written before a seal is given out. So a run that is killed at any moment has given out nothing that the next run
 doesn't know.

@@ -1,4 +1,4 @@
-"""The trust file: which key may sign for which sessions, and until when (docs/FORMATS.md, "A trust file")."""
+"""The trust file: which key may sign for which sessions, and until when (docs/dev/FORMATS.md, "A trust file")."""
 from __future__ import annotations
 
 import re

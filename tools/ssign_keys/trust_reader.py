@@ -1,4 +1,4 @@
-"""Reads a trust file, and refuses it at the first line that is wrong (docs/FORMATS.md, "A trust file")."""
+"""Reads a trust file, and refuses it at the first line that is wrong (docs/dev/FORMATS.md, "A trust file")."""
 from __future__ import annotations
 
 import difflib

@@ -1,6 +1,6 @@
 """Finds the original in a wrap: a message in whose MSG, after a bar, all octets of another message stand.
 
-`ssign extract --unwrap` takes wraps off; here originals are only shown. docs/FORMATS.md, "An extract", says what a wrap is.
+`ssign extract --unwrap` takes wraps off; here originals are only shown. docs/dev/FORMATS.md, "An extract", says what a wrap is.
 """
 from __future__ import annotations
 

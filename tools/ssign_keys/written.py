@@ -1,4 +1,4 @@
-"""Blocks exactly as `ssign plan` writes them, without SIGN (docs/FORMATS.md, "Written blocks"; RFC 5848, sections 4.2 and
+"""Blocks exactly as `ssign plan` writes them, without SIGN (docs/dev/FORMATS.md, "Written blocks"; RFC 5848, sections 4.2 and
 5.3.2). Whoever signs reads the whole of what is signed: nothing else stands in it, and each number is in its range.
 """
 from __future__ import annotations

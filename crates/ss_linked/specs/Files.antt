@@ -1,4 +1,4 @@
--- Lists of signed files, the newest first (docs/FORMATS.md, "A chain").
+-- Lists of signed files, the newest first (docs/dev/FORMATS.md, "A chain").
 use Rattle.std.specs.Prelude.{◌≡◌, ◌≢◌, ◌⊎◌, ℕ, List, [], ◌∷◌, ◌++◌, slice_get, Option, Some, None}
 use Rattle.sha2.specs.Sha256.{sha256}
 

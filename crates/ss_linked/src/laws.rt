@@ -1,4 +1,4 @@
-//! Laws on signed files of which each names the one before by its SHA-256 (docs/FORMATS.md, "A chain").
+//! Laws on signed files of which each names the one before by its SHA-256 (docs/dev/FORMATS.md, "A chain").
 ghost use Rattle.ss_linked.specs.ChainLaws.{ChainsAreOne, FilesBeforeAreOne, LinksAreOne, NothingIsMissing};
 ghost use Rattle.ss_linked.specs.SmallChain.{SmallChainIsThis};
 

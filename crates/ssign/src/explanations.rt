@@ -1,4 +1,4 @@
-//! What the codes and the words of the program's output mean, in five tables. `docs/guide.md` has those that the
+//! What the codes and the words of the program's output mean, in five tables. The documents have those that the
 //! program prints, in the same order: refusals, lines and words, and faults.
 mod faults;
 mod lines;

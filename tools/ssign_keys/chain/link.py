@@ -1,6 +1,6 @@
 """The chain message of a signed file: number 1 of its session, signed as any other, with the file before and the log in it.
 
-Its text is JSON on one line: ASCII, names in order, no blanks. docs/FORMATS.md has the fields.
+Its text is JSON on one line: ASCII, names in order, no blanks. docs/dev/FORMATS.md has the fields.
 """
 from __future__ import annotations
 

@@ -1,4 +1,4 @@
-"""The memory of checks: a folder that only they write to. docs/FORMATS.md has its files.
+"""The memory of checks: a folder that only they write to. docs/dev/FORMATS.md has its files.
 
 `runs` has a line for each check, with the end of each other file. ORIGINATOR.memory has what was seen of an originator.
 """
