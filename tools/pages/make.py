@@ -5,6 +5,7 @@ import os
 import sys
 from typing import Dict, Sequence
 
+from .clauses import with_lists
 from .decisions import with_decisions
 from .help import Program, Unreadable, read_program
 from .manual import page
@@ -43,6 +44,7 @@ def make_all() -> Dict[str, str]:
     made = {f"man/{name}": page(name, read("man", f"{name}.md"), programs[of], version, formats) for name, of in PAGES.items()}
     made["docs/guide.md"] = with_codes(read("docs", "guide.md"), programs["ssign"])
     made["docs/dev/DECISIONS.md"] = with_decisions(read)
+    made.update(with_lists(ROOT))
     for name, program in programs.items():
         made[f"completions/{name}.bash"] = bash(program)
         made[f"completions/_{name}"] = zsh(program)
