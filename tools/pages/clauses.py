@@ -15,8 +15,8 @@ from .edits import with_edits
 HEADING = "## Clauses"
 # docs/dev/LAWS.md has the laws of all crates
 LAWS = "[LAWS.md](../../docs/dev/LAWS.md) has each law of this crate with its premises.\n"
-NOTE = ("`make pages` makes this list from the sources. After each clause stand the definitions that it cites. "
-        "A clause without a name is called `ensures`.\n")
+NOTE = ("`make pages` makes this list from the sources. After each clause stand the definitions that it cites, or its text if "
+        "it is short and cites none. A clause without a name is called `ensures`.\n")
 NONE = "No function of this crate is public.\n"
 PROGRAM = "ssign"
 # the traits whose implementations say nothing of a function
