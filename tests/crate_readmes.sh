@@ -31,6 +31,7 @@ begin() {
     printf '# Each crate\nss_wrap: itoa\nss_a: ss_wrap\ntest_origins: ss_wrap # tests\n' >"$small/crates.txt"
     printf '# Bodies\n\nIt is so.\n' >"$small/docs/dev/wrong-bodies.md"
     printf '# Edits\n\nIt is so.\n' >"$small/mutants/README.md"
+    printf '# Laws\n\n## 1. None\n\n## 2. One, or more\n\n[`one_is_one`](../../crates/ss_a/src/laws.rt)\n' >"$small/docs/dev/LAWS.md"
     touch -- "$small"/mutants/ss_wrap/{README.md,two.edit,three.edit} "$small/crates/ss_wrap/must-fail/one.edit"
     cat >"$small/crates/ss_wrap/src/lib.rt" <<'R'
 //! A library.
@@ -101,7 +102,7 @@ done
 
 # what the lists are
 expect_list() {
-    tell "$1" "$(diff <(sed -n '/^| \[/p; /^- \[/p; /^No /p; /each law/p' "$small/$2") <(printf '%s\n' "${@:3}"))"
+    tell "$1" "$(diff <(sed -n '/^| \[/p; /^- \[/p; /^No /p; /^The laws/p' "$small/$2") <(printf '%s\n' "${@:3}"))"
 }
 expect_list 'the clauses of each public function are listed' crates/ss_wrap/README.md \
     '| [`one`](src/inner.rt) | `value`: [`is_one`](specs/Ones.antt), [`IsTwo`](specs/Ones.antt); `ensures`: `result ≡ 1 \|\| 2` | `requires`: `1 < 2` |' \
@@ -110,7 +111,7 @@ expect_list 'the clauses of each public function are listed' crates/ss_wrap/READ
     '| [`Keeps::keep`](src/kept.rt) | `ensures`: `kept self.now` | |' \
     '| [`open::four`](src/open.rt) | no clause | |'
 expect_list 'a crate of laws has a link in place of a list' crates/ss_a/README.md \
-    '[LAWS.md](../../docs/dev/LAWS.md) has each law of this crate with its premises.'
+    'The laws of this crate, with their premises: [2. One, or more](../../docs/dev/LAWS.md#2-one-or-more).'
 expect_list 'a crate without public functions says so' crates/test_origins/README.md 'No function of this crate is public.'
 expect_list 'the edits of each folder are listed' docs/dev/wrong-bodies.md \
     '- [Each run](../../crates/ss_wrap/must-fail), 1: `one`' '- [Apart](../../mutants/ss_wrap), 2: `three`, `two`'

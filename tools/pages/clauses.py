@@ -13,8 +13,8 @@ from typing import Dict, Iterator, List, NamedTuple, Sequence, Set, Tuple
 from .edits import with_edits
 
 HEADING = "## Clauses"
-# docs/dev/LAWS.md has the laws of all crates
-LAWS = "[LAWS.md](../../docs/dev/LAWS.md) has each law of this crate with its premises.\n"
+# it has the laws of all crates, in numbered sections
+LAWS = "docs/dev/LAWS.md"
 NOTE = ("`make pages` makes this list from the sources. After each clause stand the definitions that it cites, or its text if "
         "it is short and cites none. A clause without a name is called `ensures`.\n")
 NONE = "No function of this crate is public.\n"
@@ -263,15 +263,25 @@ def has_laws_alone(root: str, name: str) -> bool:
     return has_laws(root, name) and set(names) <= {"laws", "laws.rt", "lib.rt"}
 
 
+def laws_of(root: str, name: str) -> str:
+    """A line that leads to the sections with laws of a crate."""
+    links = []
+    for section in re.split(r"^## ", read(os.path.join(root, LAWS)), flags=re.M)[1:]:
+        title = section.split("\n", 1)[0]
+        if title[0].isdigit() and f"/crates/{name}/" in section:
+            anchor = re.sub(r"[^\w\- ]", "", title.lower()).replace(" ", "-")
+            links.append(f"[{title}](../../{LAWS}#{anchor})")
+    return f"The laws of this crate, with their premises: {', '.join(links) or f'[LAWS.md](../../{LAWS})'}.\n"
+
+
 def clauses_of(root: str, name: str) -> str:
     """The generated part of the README of a crate."""
+    laws = laws_of(root, name) if has_laws(root, name) else ""
     if has_laws_alone(root, name):
-        return f"{HEADING}\n\n{LAWS}"
+        return f"{HEADING}\n\n{laws}"
     functions = functions_of(root, name)
-    laws = f"\n{LAWS}" if has_laws(root, name) else ""
-    if not functions:
-        return f"{HEADING}\n\n{NONE}{laws}"
-    return f"{HEADING}\n\n{NOTE}{laws}\n" + "\n".join(table_of(functions)) + "\n"
+    listed = f"{NOTE}\n" + "\n".join(table_of(functions)) + "\n" if functions else NONE
+    return f"{HEADING}\n\n{listed}" + (f"\n{laws}" if laws else "")
 
 
 def own_part(text: str) -> str:
