@@ -45,14 +45,14 @@ def choose_python(module: str) -> None:
 
 
 def other_pythons() -> List[str]:
-    """The paths of all Pythons that may be there, each once, but for this one."""
-    paths = [sys.executable]
+    """The paths of all Pythons that may be there, each once."""
+    paths = []  # type: List[str]
     for folder in os.environ.get("PATH", os.defpath).split(os.pathsep) + list(FOLDERS):
         for name in NAMES:
             path = os.path.join(folder, name)
             if os.path.isabs(path) and os.access(path, os.X_OK) and path not in paths:
                 paths.append(path)
-    return paths[1:]
+    return paths
 
 
 def fits(python: str, module: str) -> bool:
