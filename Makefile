@@ -4,7 +4,8 @@
 #   make install              installs below PREFIX
 #   make uninstall            takes away what `make install` put there
 #   make deb                  makes a Debian package in the folder BUILD
-#   make test                 runs the tests that need no more than the program; JOBS says how many at a time
+#   make test                 runs the tests, and skips what lacks a tool; JOBS says how many at a time. ./setup test
+#                             installs the tools before
 #   make pages                makes man/, completions/ and the guide's codes again, from --help and explain
 #
 # DESTDIR is a scratch root in front of PREFIX. PYTHON is the interpreter for both tools; without it `env` finds one.

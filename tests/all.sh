@@ -5,8 +5,8 @@
 #                                              all. With --gate a script that lacks what the gate makes has failed
 #
 # The program is that of tests/lib.sh: SSIGN, or the one that was built here, or the recorded one. Each line says how a
-# script ended; of one that failed all that it said stands before. Then follows what was left out, and why. The last line
-# is `N passed, M failed`, and the status is 0 only where M is 0.
+# script ended; of one that failed all that it said stands before. Then follows what was skipped, and why. A script that is
+# left out counts as one skipped. The last line is `N passed, M failed, K skipped`, and the status is 0 only where M is 0.
 # shellcheck source=tests/lib.sh
 . "$(dirname -- "$0")/lib.sh"
 cd -- "$root" || exit 1
@@ -41,14 +41,18 @@ for it in "${names[@]}"; do
     [[ $it =~ ^[a-z0-9_-]+$ && -f tests/$it.sh ]] || usage
 done
 if ! find_program; then
-    echo '0 passed, 1 failed'
+    echo '0 passed, 1 failed, 0 skipped'
     exit 1
 fi
 echo "all: the program is ${program#"$root/"}"
-export SSIGN=$program scratch longest
+export SSIGN=$program scratch longest counts_form
 # A starter of Python, as pyenv has one, takes as long as Python itself.
-if python=$(python3 -c 'import os, sys; print(os.path.dirname(sys.executable))' 2>"$scratch/fault"); then
+unset SSIGN_NO_PYTHON
+if python=$("$root/setup" python) &&
+    python=$("$python" -c 'import os, sys; print(os.path.dirname(sys.executable))' 2>"$scratch/fault"); then
     export PATH=$python:$PATH
+else
+    export SSIGN_NO_PYTHON=1
 fi
 # Thousands of processes would each compile the tools anew. What is compiled here goes at the end.
 compiled=
@@ -61,34 +65,36 @@ remove_compiled() {
 if [[ ${#names[@]} == 0 ]]; then
     for it in "${first[@]}" $(cd tests && printf '%s\n' *.sh); do
         it=${it%.sh}
-        case " lib all install-tools ${names[*]} " in *" $it "*) ;; *) [[ ! -f tests/$it.sh ]] || names+=("$it") ;; esac
+        case " lib all ${names[*]} " in *" $it "*) ;; *) [[ ! -f tests/$it.sh ]] || names+=("$it") ;; esac
     done
 fi
 
 # run_one NAME: runs a script, keeps what it said and how it ended, and says so.
 run_one() {
-    local said=$scratch/$1.said status counts TIMEFORMAT='%0R s, %0U + %0S of a processor'
+    local said=$scratch/$1.said status line one other more TIMEFORMAT='%0R s, %0U + %0S of a processor'
     # shellcheck disable=SC2016
     { time timeout -k 10 "$longest" bash -c 'echo "$PPID" >"$2"; exec bash "tests/$1.sh"' one "$1" "$scratch/$1.running" \
         >"$said" 2>&1 </dev/null; } 2>"$scratch/$1.time"
     status=$?
     rm -f -- "$scratch/$1.running"
-    counts=$(tail -n 1 -- "$said" | grep -Eo '[0-9]+ passed, [0-9]+ failed$')
-    # in the gate nothing may be left out that it makes itself
-    if [[ $status == 77 && ! ${SSIGN_GATE-} ]]; then
-        echo "0 0" >"$scratch/$1.counts"
+    line=$(tail -n 1 -- "$said")
+    if [[ $status == 77 ]]; then
+        echo "0 0 1" >"$scratch/$1.counts"
         return
     fi
-    if [[ ! $counts ]]; then
-        counts="0 passed, 1 failed"
+    if [[ $line =~ $counts_form ]]; then
+        one=${BASH_REMATCH[1]} other=${BASH_REMATCH[2]} more=${BASH_REMATCH[4]:-0}
+        if [[ $status != 0 && $other == 0 ]]; then
+            other=1
+            echo "$1: it ended with status $status" >>"$said"
+        fi
+    else
+        one=0 other=1 more=0
         echo "$1: it ended with status $status, and without its counts" >>"$said"
-    elif [[ $status != 0 && $counts == *' 0 failed' ]]; then
-        counts=${counts% 0 failed}" 1 failed"
-        echo "$1: it ended with status $status" >>"$said"
     fi
-    [[ $counts == *' 0 failed' ]] || cat -- "$said"
-    echo "$1: $counts ($(<"$scratch/$1.time"))"
-    sed 's/ passed, / /; s/ failed//' <<<"$counts" >"$scratch/$1.counts"
+    [[ $other == 0 ]] || cat -- "$said"
+    echo "$1: $one passed, $other failed, $more skipped ($(<"$scratch/$1.time"))"
+    echo "$one $other $more" >"$scratch/$1.counts"
 }
 export -f run_one
 # Whoever ends this run ends its scripts, each of which has a process group of its own.
@@ -108,15 +114,15 @@ remove_compiled
 
 # what scripts say of tools that aren't here
 for it in "${names[@]}"; do
-    sed -nE "s/^$it: /    &/; / passed, |: FAILED\$/d; /: (left out|skipped|no |there is no |warning: )/p" -- "$scratch/$it.said"
-done >"$scratch/left-out"
-if [[ -s $scratch/left-out ]]; then
-    echo 'all: left out:'
-    sort -u -- "$scratch/left-out"
+    sed -nE "s/^$it: /    &/; / passed, |: FAILED\$/d; /: (left out|skipped|warning): /p" -- "$scratch/$it.said"
+done >"$scratch/skipped"
+if [[ -s $scratch/skipped ]]; then
+    echo 'all: skipped:'
+    sort -u -- "$scratch/skipped"
 fi
 for it in "${names[@]}"; do
-    read -r one other <"$scratch/$it.counts" 2>"$scratch/fault" || { one=0 other=1; echo "$it: it never ended"; }
-    passed=$((passed + one)) failed=$((failed + other))
+    read -r one other more <"$scratch/$it.counts" 2>"$scratch/fault" || { one=0 other=1 more=0; echo "$it: it never ended"; }
+    passed=$((passed + one)) failed=$((failed + other)) skipped=$((skipped + more))
 done
-printf '%d passed, %d failed\n' "$passed" "$failed"
+printf '%d passed, %d failed, %d skipped\n' "$passed" "$failed" "$skipped"
 [[ $failed == 0 && $passed != 0 ]]

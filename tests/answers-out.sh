@@ -6,11 +6,7 @@
 need_program
 export SSIGN=$program
 keys_program=$root/tools/ssign-keys
-if ! python3 -c 'import cryptography' 2>/dev/null; then
-    echo "$name: no cryptography for python3 here (apt-get install python3-cryptography), so nothing of ssign-keys is run"
-    holds 'ssign-keys is there' test -x "$keys_program"
-    finish
-fi
+need_cryptography
 mkdir -- "$scratch/passing"
 export TMPDIR=$scratch/passing
 cd -- "$scratch" || exit 1

@@ -111,7 +111,7 @@ if command -v xz >out; then
     archive join archive/gate-3
     holds 'join: the files in the order of their names' cmp out <(zcat_all gate-3)
 else
-    echo "$name: no xz here, so nothing is compared with what it expands"
+    skip "no xz here, so nothing is compared with what it expands"
 fi
 # a session of one originator, whose blocks `split` finds again
 archive join archive/gate-2

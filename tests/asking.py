@@ -21,6 +21,8 @@ import time
 from concurrent.futures import ThreadPoolExecutor
 from typing import BinaryIO, Callable, Dict, List, NamedTuple, Optional, Sequence
 
+import skips
+
 # a run that takes more seconds hangs
 PATIENCE = 100
 KEY = ["--key", "keys/public-key.pem"]
@@ -404,7 +406,7 @@ def check_changed(bench: Bench) -> None:
         os.remove("changing")
         done = finished(child, "changed")
         if done.status == 2 and os.fstat(file.fileno()).st_ctime_ns != status:
-            print("asking: skipped a map of a log, because its ctime moved")
+            skips.skip("asking", "a map of a log, because its ctime moved")
             return
     handed = json.loads(done.called[0])
     shown = [json.loads(it) for it in done.out.splitlines() if it.startswith(b'{"line":"checked"')]
@@ -420,7 +422,7 @@ def main(tool: str, program: str) -> None:
     check_counts_of_findings(bench)
     check_changed(bench)
     check_broken(bench)
-    print(f"asking: {passed} passed, {failed} failed")
+    print(f"asking: {passed} passed, {failed} failed{skips.more()}")
 
 
 if __name__ == "__main__":

@@ -2,11 +2,8 @@
 # Checks a table of chains of certificates with `ssign-keys` (--ca, --ca-anchor) and with `openssl verify`: authorities.py.
 # shellcheck source=tests/lib.sh
 . "$(dirname -- "$0")/lib.sh"
-if ! python3 -c 'import cryptography' 2>/dev/null || ! command -v openssl >/dev/null; then
-    echo "$name: skipped: no cryptography for python3, or no openssl here, so no chain is judged"
-    holds 'ssign-keys is there' test -x "$root/tools/ssign-keys"
-    finish
-fi
+need_cryptography
+need_command openssl
 mkdir -- "$scratch/one"
 holds 'a good key' "$root/tools/ssign-keys" make --ver 0111 "$scratch/one"
 said=$(python3 -B "$root/tests/authorities.py" "$root/tools" "$scratch/one/private-key.pem" 2>&1) && fault='' || fault=$said

@@ -6,11 +6,7 @@
 need_program
 export SSIGN=$program
 keys_program=$root/tools/ssign-keys
-if ! python3 -c 'import cryptography' 2>/dev/null; then
-    echo "$name: no cryptography for python3 here (apt-get install python3-cryptography), so nothing of ssign-keys is run"
-    holds 'ssign-keys is there' test -x "$keys_program"
-    finish
-fi
+need_cryptography
 # passing files go to a folder that has to be empty at the end of each run
 mkdir -- "$scratch/passing"
 export TMPDIR=$scratch/passing
@@ -46,7 +42,7 @@ if command -v zstd >/dev/null; then
     suffixes+=(zst)
     zstd -q -k signed
 else
-    echo "$name: no zstd here, so logs that it compressed are left out"
+    skip "no zstd here, so logs that it compressed are left out"
 fi
 
 # zeros FORM: compresses zeros from standard input.
@@ -261,7 +257,7 @@ for form in --json --details --html=page; do
     WHEN=after keys verify --key keys/public-key.pem --ssign ./mapping "$form" mapped
     [[ $form != --html=page ]] || cp page out
     if [[ $(stat -c %Z mapped) != "$(stat -c %Z unmapped)" && $status == 2 ]]; then
-        echo "$name: skipped a map of a log, because its ctime moved"
+        skip "a map of a log, because its ctime moved"
     else
         holds "a log that is changed after its review, $form: status" test "$status" = 0
         holds "a log that is changed after its review, $form: the SHA-256" grep -qF "$sum" out

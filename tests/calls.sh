@@ -4,5 +4,5 @@
 # shellcheck source=tests/lib.sh
 . "$(dirname -- "$0")/lib.sh"
 need_program
-command -v valgrind >/dev/null || leave_out 'there is no valgrind here, which counts calls'
+need_command valgrind
 python3 -B "$root/tests/calls.py" "$program" "$@"

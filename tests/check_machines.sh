@@ -5,8 +5,8 @@
 # shellcheck source=tests/lib.sh
 . "$(dirname -- "$0")/lib.sh"
 need_program
-python3 -c 'import cryptography' 2>/dev/null || leave_out 'the Python package cryptography is missing'
-command -v parallel >"$scratch/out" || leave_out 'GNU parallel is missing (apt-get install parallel)'
+need_cryptography
+need_command parallel
 export PATH=$root/tools:$PATH:/usr/sbin SSIGN=$program PARALLEL_SSH="ssh -F $scratch/ssh_config"
 files=20
 started=()
@@ -189,7 +189,7 @@ holds 'parts of a collector: both are clean' test "$status $(grep -c 'Verdict: A
 
 # with GNU parallel over SSH: two names of this machine, at a port and with a key of the test
 if ! command -v sshd >"$scratch/out" || ! command -v ssh-keygen >"$scratch/out"; then
-    echo "$name: skipped SSH, because sshd or ssh-keygen is missing (apt-get install openssh-server)"
+    skip "SSH, because sshd or ssh-keygen is missing (apt-get install openssh-server)"
 else
     start_ssh
     { head -n 1 "$scratch/parallel"; recipe 'parallel --sshlogin'; tail -n 1 "$scratch/parallel"; } >"$scratch/recipe"
@@ -205,7 +205,7 @@ for each in sbatch slurmctld slurmd munged; do
     command -v "$each" >"$scratch/out" || missing=$each
 done
 if [[ ${missing-} ]]; then
-    echo "$name: skipped Slurm, because $missing is missing (apt-get install slurm-wlm munge)"
+    skip "Slurm, because $missing is missing (apt-get install slurm-wlm munge)"
 else
     start_slurm
     recipe '--job-name=ssign-check' >"$scratch/check.sbatch"

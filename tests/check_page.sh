@@ -4,6 +4,6 @@
 # shellcheck source=tests/lib.sh
 . "$(dirname -- "$0")/lib.sh"
 need_program
-python3 -c 'import cryptography' 2>/dev/null || leave_out 'the Python package cryptography is missing'
+need_cryptography
 
 SSIGN=$program python3 -B "$root/tests/check_page.py"

@@ -3,7 +3,7 @@
 # have their options. And `ssign-keys alarm`, over status files that are right, old, odd or not there.
 # shellcheck source=tests/lib.sh
 . "$(dirname -- "$0")/lib.sh"
-python3 -c 'import cryptography' 2>/dev/null || leave_out 'the Python package cryptography is missing'
+need_cryptography
 keys_program=$root/tools/ssign-keys
 units=$root/examples/systemd
 cd -- "$scratch" || exit 1
@@ -30,7 +30,7 @@ if command -v systemd-analyze >found; then
         holds "how far ssign-${it%:*}@.service is shut in" test "$?" = 0
     done
 else
-    echo "$name: no systemd-analyze here, so nobody reads the units"
+    skip "no systemd-analyze here, so nobody reads the units"
 fi
 
 # ---- the alarm

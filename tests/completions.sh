@@ -21,7 +21,7 @@ if python3 -c 'import cryptography' 2>"$scratch/err"; then
     holds 'nothing else is made' test "$(ls "$scratch/made/completions")" = "$(printf '%s\n' "${files[@]}")"
 else
     # the help of a command loads all of it
-    echo "$name: skipped what needs the help of ssign-keys, since the Python module cryptography is missing"
+    skip "what needs the help of ssign-keys, since the Python module cryptography is missing"
 fi
 
 # a folder with files to offer
@@ -190,7 +190,7 @@ if command -v fish >"$scratch/out"; then
     ask_fish ssign rev
     same 'fish: a command that is begun' review
 else
-    echo "$name: skipped what needs fish, which is missing"
+    skip "what needs fish, which is missing"
 fi
 
 # ---- zsh, which completes on a terminal alone: one zsh sits on a pseudo-terminal, and another one types there
@@ -276,7 +276,7 @@ if command -v zsh >"$scratch/out"; then
     kill "$typist" 2>"$scratch/out"
     wait "$typist" 2>"$scratch/out"
 else
-    echo "$name: skipped what needs zsh, which is missing"
+    skip "what needs zsh, which is missing"
 fi
 
 finish

@@ -46,6 +46,7 @@ import sys
 import tempfile
 
 import cost_logs as logs
+import skips
 
 MOST = 2.3
 # what is too little to have a ratio: a list that grows once more, a number with one digit more
@@ -540,7 +541,7 @@ def main():
     given = parser.parse_args()
     counter = next((it for it in ([CALLGRIND] if given.instructions else [VALGRIND, PERF]) if it.works()), None)
     if not counter:
-        print("cost: neither valgrind nor perf counts here, so no steps are counted")
+        skips.skip("cost", "neither valgrind nor perf counts here, so no steps are counted")
     jobs = min(4, os.cpu_count() or 1)
     with tempfile.TemporaryDirectory() as folder, concurrent.futures.ThreadPoolExecutor(jobs) as pool:
         if counter and counter.tool == "valgrind":
@@ -556,7 +557,7 @@ def main():
                 os.mkdir(inputs)
                 benches[name] = Bench(given.slow, inputs, given.count, counter, {"SLOW": name})
             check_slow(benches, pool, given.show)
-    print("cost: %d passed, %d failed" % (passed, failed))
+    print("cost: %d passed, %d failed%s" % (passed, failed, skips.more()))
     return failed > 0 or passed == 0
 
 

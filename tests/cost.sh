@@ -10,6 +10,7 @@ if command -v cc >/dev/null; then
     cc -O1 -o "$scratch/slow" "$root/tests/slow.c" || exit 1
     words=(--count "$scratch/count.so" --slow "$scratch/slow")
 else
-    echo "$name: no cc here, so room and copies aren't counted, and no slow stand-in is tried"
+    skip "no cc here, so room and copies aren't counted, and no slow stand-in is tried"
 fi
-python3 -B "$root/tests/cost.py" "$program" "${words[@]}" "$@"
+adds cost.py python3 -B "$root/tests/cost.py" "$program" "${words[@]}" "$@"
+finish

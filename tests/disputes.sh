@@ -6,11 +6,7 @@
 need_program
 export SSIGN=$program
 keys_program=$root/tools/ssign-keys
-if ! python3 -c 'import cryptography' 2>/dev/null; then
-    echo "$name: no cryptography for python3 here (apt-get install python3-cryptography), so nothing of ssign-keys is run"
-    holds 'ssign-keys is there' test -x "$keys_program"
-    finish
-fi
+need_cryptography
 mkdir -- "$scratch/passing"
 export TMPDIR=$scratch/passing
 cd -- "$scratch" || exit 1
@@ -205,7 +201,7 @@ if command -v openssl >/dev/null && python3 -B "$root/tests/asked_once.py" autho
     holds 'an authority, and many times: all sessions are looked at in less than 30 seconds' test "$(grep -c '^  state: ' out)" -ge 11
     holds 'an authority, and many times: the numbers' grep -qx '    numbers 1 to 10: 10 listed' out
 else
-    echo "$name: no openssl here, or no certificates can be made, so none is tried"
+    skip "no openssl here, or no certificates can be made, so none is tried"
 fi
 
 holds 'a payload in fragments of an octet takes few steps' python3 -B - "$root/tools" <<'END'

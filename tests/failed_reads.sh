@@ -5,7 +5,7 @@
 # shellcheck source=tests/lib.sh
 . "$(dirname -- "$0")/lib.sh"
 need_program
-command -v cc >/dev/null || leave_out 'no cc here (apt-get install gcc)'
+need_command cc
 
 cc -shared -fPIC -o "$scratch/fail.so" "$root/tests/fail.c" -ldl || exit 1
 python3 -B "$root/tests/failed_reads.py" "$program" "$scratch/fail.so"

@@ -4,7 +4,7 @@
 # shellcheck source=tests/lib.sh
 . "$(dirname -- "$0")/lib.sh"
 need_program
-python3 -c 'import cryptography' 2>/dev/null || leave_out 'the Python package cryptography is missing'
+need_cryptography
 export SSIGN=$program
 cd -- "$scratch" || exit 1
 
@@ -77,12 +77,12 @@ holds 'a newest file is gone' test "$status$(head -n 1 out | cut -d : -f 1)" = '
 # ---- the six commands
 for tool in rsyslogd logrotate logger; do
     if ! command -v "$tool" >found; then
-        echo "$name: skipped the six commands: $tool is missing"
+        skip "the six commands: $tool is missing"
         finish
     fi
 done
 if [[ $(id -u) != 0 ]]; then
-    echo "$name: skipped the six commands, which root runs"
+    skip "the six commands, which root runs"
     finish
 fi
 mapfile -t commands < <(awk '/^## From rsyslog to the first checked night$/ { inside = 1; next } /^##/ { inside = 0 }

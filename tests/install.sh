@@ -7,7 +7,7 @@
 need_program
 unset SSIGN PREFIX DESTDIR PYTHON BUILD MAKEFLAGS SOURCE_DATE_EPOCH
 if ! command -v make >"$scratch/out"; then
-    echo "$name: skipped what needs make, which is missing"
+    skip "what needs make, which is missing"
     holds 'the Makefile is there' test -f "$root/Makefile"
     finish
 fi
@@ -16,7 +16,7 @@ umask 022
 signed=$root/examples/signed
 has_cryptography=
 python3 -c 'import cryptography' 2>"$scratch/err" && has_cryptography=1
-[[ $has_cryptography ]] || echo "$name: skipped what needs the Python module cryptography, which is missing"
+[[ $has_cryptography ]] || skip "what needs the Python module cryptography, which is missing"
 
 # a toolchain that builds nothing stands in front of any other
 mkdir fake
@@ -107,7 +107,7 @@ if command -v man >out; then
         holds "man finds ${page%.*}" test "$(man -M "$scratch/$usr/share/man" -w "${page##*.}" "${page%.*}")" = "$scratch/$usr/share/man/man${page##*.}/$page"
     done
 else
-    echo "$name: skipped what needs man, which is missing"
+    skip "what needs man, which is missing"
 fi
 tree one >before
 made install DESTDIR="$scratch/one"
@@ -263,7 +263,7 @@ if [[ $can_lose ]]; then
     allow mine/usr/local/bin
     holds 'it took nothing' diff before <(tree mine)
 else
-    echo "$name: skipped what needs a user without rights, since this one can't give them up"
+    skip "what needs a user without rights, since this one can't give them up"
 fi
 
 # ---- which program is installed: a copy of the repository in which it is damaged, or the sources are others
@@ -294,7 +294,7 @@ if cmp -s "$root/release/ssign-x86_64-linux" "$program"; then
     fails 'a recorded program of other sources' 'it is of other sources'
     holds 'that is not installed' test ! -e two
 else
-    echo "$name: the recorded program isn't the one that is tested, so what is done with it isn't tried"
+    skip "what is done with the recorded program, because another one is tested"
 fi
 # a program that was built here of these sources
 rm -rf "$source/crates/ssign/out" rt-ran
@@ -312,7 +312,7 @@ source=$root
 
 # ---- the package
 if ! command -v dpkg-deb >out || [[ $(uname -m) != x86_64 ]]; then
-    echo "$name: skipped what needs dpkg-deb on x86-64, which is missing"
+    skip "what needs dpkg-deb on x86-64, which is missing"
     finish
 fi
 umask 077
@@ -341,7 +341,7 @@ if command -v objdump >out; then
         test "$(objdump -T "$program" | grep -o 'GLIBC_[0-9.]*' | sort -uV | tail -n 1)" = "$glibc"
     holds 'the program needs libc alone' test "$(objdump -p "$program" | sed -n 's/^ *NEEDED *//p')" = libc.so.6
 else
-    echo "$name: skipped what needs objdump, which is missing"
+    skip "what needs objdump, which is missing"
 fi
 # the modules that ssign-keys loads and Python hasn't
 modules='
@@ -403,7 +403,7 @@ if command -v lintian >out; then
     holds 'lintian finds no mistake but the missing licence' diff <(lines "$left") <(grep '^[EW]:' said)
     holds 'lintian needs each of its overrides' test -z "$(grep '^[EWI]:.*override' said)"
 else
-    echo "$name: skipped what needs lintian, which is missing"
+    skip "what needs lintian, which is missing"
 fi
 
 # in a scratch root with a dpkg of its own
@@ -411,7 +411,7 @@ as_root=()
 [[ $(id -u) == 0 ]] || as_root=(fakeroot)
 for tool in dpkg "${as_root[@]}"; do
     if ! command -v "$tool" >out; then
-        echo "$name: skipped what needs $tool, which is missing, to install the package"
+        skip "what needs $tool, which is missing, to install the package"
         finish
     fi
 done
@@ -439,7 +439,7 @@ if [[ -x /usr/bin/python3 ]] && /usr/bin/python3 -c 'import cryptography, sys; s
     expect 'ssign-keys of the package' 0 'SOME TEXT' ''
     holds 'it runs the ssign of the package' test ! -e other-ran
 else
-    echo "$name: ssign-keys of the package isn't run, since /usr/bin/python3 has no module cryptography"
+    skip "ssign-keys of the package, because /usr/bin/python3 has no module cryptography"
 fi
 holds 'dpkg finds its files as they were' test -z "$(dpkg --root="$scratch/machine" --verify suhvatek 2>&1)"
 installer --purge suhvatek

@@ -40,7 +40,7 @@ expect 'help without cryptography' 0 'SOME TEXT' ''
 holds 'the log that is kept is signed, and its answers are right' \
     cases log "$signed/signed.frames" "$signed/signed.answers" "$signed/public-key.pem"
 if ! "$python" -c 'import cryptography' 2>/dev/null; then
-    echo "$name: no Python module cryptography here, so nothing is made, sealed or answered"
+    skip "no Python module cryptography here, so nothing is made, sealed or answered"
     finish
 fi
 
@@ -699,12 +699,12 @@ if command -v openssl >/dev/null && openssl genpkey -genparam -algorithm DSA -pk
     -pkeyopt dsa_paramgen_q_bits:160 -out parameters.pem 2>openssl.said; then
     check_certificates
 else
-    echo "$name: no openssl here that makes DSA keys, so nothing is done with certificates"
+    skip "no openssl here that makes DSA keys, so nothing is done with certificates"
 fi
 if command -v gpg >/dev/null; then
     check_openpgp
 else
-    echo "$name: no gpg here, so nothing is done with OpenPGP keys"
+    skip "no gpg here, so nothing is done with OpenPGP keys"
 fi
 
 finish

@@ -1,11 +1,11 @@
 # shellcheck shell=bash
 # Helpers of the tests beside this file, which source it. A test states its checks one after the other and ends with
-# `finish`, whose line `NAME: N passed, M failed` is what ./check adds up.
+# `finish`, whose line `NAME: N passed, M failed` is what tests/all.sh adds up, with `, K skipped` where something was.
 #
 # A test that drives the program calls `need_program` first. The program is the file that the variable SSIGN names, or
 # else the one that a build of this repository leaves, or else the recorded one, if it is of these sources and runs here.
-# A test that needs other programs, which ./check alone makes, calls `need_made`. A test that can't be run at all calls
-# `leave_out`.
+# A test that needs other programs, which ./check alone makes, calls `need_made`. A part that can't be run here calls `skip`,
+# and a test that can't be run at all calls `leave_out`. Nothing else may pass over a check.
 set -u
 
 root=$(CDPATH='' cd -- "$(dirname -- "${BASH_SOURCE[0]}")/.." && pwd) || exit 1
@@ -16,7 +16,11 @@ name=$(basename -- "$0" .sh)
 export SSIGN_SESSIONS=/dev/null
 passed=0
 failed=0
+skipped=0
 status=0
+# the counts at the end of a line
+# shellcheck disable=SC2034
+counts_form='([0-9]+) passed, ([0-9]+) failed(, ([0-9]+) skipped)?$'
 # a program that takes longer than this hangs
 patience=60
 
@@ -45,10 +49,33 @@ need_program() {
     finish
 }
 
-# leave_out WHY: ends a test that can't be run here, with the status 77. tests/all.sh repeats the line.
+# skip WHAT: counts a part of the test that can't be run here. WHAT says which, and why. tests/all.sh repeats the line.
+skip() {
+    skipped=$((skipped + 1))
+    printf '%s: skipped: %s\n' "$name" "$*"
+}
+
+# leave_out WHY: ends a test that can't be run here, with the status 77, or with the counts where some was run.
 leave_out() {
-    echo "$name: left out: $1"
+    if [[ $((passed + failed)) != 0 ]]; then
+        skip "$1"
+        finish
+    fi
+    printf '%s: left out: %s\n' "$name" "$1"
     exit 77
+}
+
+# need_cryptography: leaves the test out where Python has no module cryptography.
+need_cryptography() {
+    python3 -c 'import cryptography' 2>"$scratch/fault" || leave_out 'the Python module cryptography is missing'
+}
+
+# need_command COMMAND..: leaves the test out where one of these commands is missing.
+need_command() {
+    local it
+    for it in "$@"; do
+        command -v "$it" >"$scratch/fault" || leave_out "$it is missing"
+    done
 }
 
 # need_made FILE..: leaves the test out if one of these programs isn't there. ./check has made them all and says so by the
@@ -142,7 +169,7 @@ validate() {
         tell "$1" "$said"
     elif [[ -z ${no_tidy-} ]]; then
         no_tidy=told
-        echo "$name: no tidy here (apt-get install tidy), so the parser of this test alone looks at the HTML"
+        skip "tidy over the HTML, because it is missing; the parser of this test looks at it"
     fi
 }
 
@@ -176,8 +203,28 @@ spent = os.times()
 print(int(1000 * (spent.children_user + spent.children_system)))' "$@"
 }
 
+# adds WHAT COMMAND..: the checks of a script of Python, whose last line has its counts.
+adds() {
+    local what=$1 said
+    shift
+    said=$("$@" 2>&1)
+    if ! [[ $(tail -n 1 <<<"$said") =~ $counts_form ]]; then
+        tell "$what" "${said:-    it said nothing}"
+        return
+    fi
+    passed=$((passed + BASH_REMATCH[1])) failed=$((failed + BASH_REMATCH[2])) skipped=$((skipped + ${BASH_REMATCH[4]:-0}))
+    head -n -1 <<<"$said" | sed -E "s/^[a-z_]+: skipped: /$name: skipped: /"
+}
+
 finish() {
-    printf '%s: %d passed, %d failed\n' "$name" "$passed" "$failed"
-    [[ $failed == 0 && $passed != 0 ]]
+    local more=''
+    [[ $skipped == 0 ]] || more=", $skipped skipped"
+    printf '%s: %d passed, %d failed%s\n' "$name" "$passed" "$failed" "$more"
+    [[ $failed == 0 && $((passed + skipped)) != 0 ]]
     exit
 }
+
+# A test that calls Python, or a tool that is written in it, can't be run without. tests/all.sh says where it is too old.
+if [[ ${SSIGN_NO_PYTHON-} ]] || ! command -v python3 >"$scratch/fault"; then
+    [[ $name == all ]] || ! grep -qE 'python3|tools/|milliseconds' -- "$0" || leave_out 'Python 3.9 or newer is missing'
+fi

@@ -8,29 +8,10 @@
 need_program
 export SSIGN=$program
 keys_program=$root/tools/ssign-keys
-if ! python3 -c 'import cryptography' 2>/dev/null; then
-    echo "$name: no cryptography for python3 here (apt-get install python3-cryptography), so nothing is signed"
-    holds 'ssign-keys is there' test -x "$keys_program"
-    finish
-fi
+need_cryptography
 cd -- "$scratch" || exit 1
 all=()
 [[ ! ${LIVE_ALL-} ]] || all=(all)
-
-# adds WHAT COMMAND..: the checks of a script of Python, whose last line has its counts.
-adds() {
-    local what=$1 said counts
-    shift
-    said=$("$@" 2>&1)
-    counts=$(tail -n 1 <<<"$said" | grep -Eo '[0-9]+ passed, [0-9]+ failed$')
-    if [[ ! $counts ]]; then
-        tell "$what" "${said:-    it said nothing}"
-        return
-    fi
-    head -n -1 <<<"$said"
-    read -r more _ less _ <<<"${counts/,/}"
-    passed=$((passed + more)) failed=$((failed + less))
-}
 
 mkdir keys
 "$keys_program" make keys >made || exit 1
@@ -42,7 +23,7 @@ adds 'wraps' python3 -B "$root/tests/live_wraps.py" "$program"
 if command -v openssl >found; then
     adds 'time stamps' python3 -B "$root/tests/live_stamps.py" "$program" keys
 else
-    echo "$name: no openssl here, so no time stamp is made"
+    skip "no openssl here, so no time stamp is made"
 fi
 if [[ ${LIVE_ALL-} ]]; then
     adds 'a soak' python3 -B "$root/tests/live_soak.py" "$program" keys 1000000 10000 60
@@ -52,6 +33,6 @@ fi
 if command -v rsyslogd >found && ls /usr/lib/*/rsyslog/omprog.so >found 2>&1; then
     adds 'rsyslog' python3 -B "$root/tests/live_rsyslog.py" "$program" keys
 else
-    echo "$name: no rsyslogd with omprog here (apt-get install rsyslog), so it hands nothing over"
+    skip "no rsyslogd with omprog here (apt-get install rsyslog), so it hands nothing over"
 fi
 finish

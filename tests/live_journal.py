@@ -20,6 +20,7 @@ import time
 
 import live_runs
 from live_runs import KEYS, Process, differ, signer, tell
+import skips
 
 from ssign_keys import keys, live_journal
 
@@ -222,12 +223,12 @@ def main():
     keys.key_fault = functools.lru_cache(keys.key_fault)
     keys.read_private_key(f"{KEYS}/private-key.pem")
     if REMOTE is None or shutil.which("journalctl") is None:
-        print("live_journal: skipped journal files, because systemd-journal-remote isn't here (apt-get install systemd-journal-remote)")
+        skips.skip("live_journal", "journal files, because systemd-journal-remote or journalctl isn't here (./setup tools)")
     else:
         real_entries()
         real_kills()
     made_up()
-    print(f"live_journal: {live_runs.passed} passed, {live_runs.failed} failed")
+    print(f"live_journal: {live_runs.passed} passed, {live_runs.failed} failed{skips.more()}")
     return 1 if live_runs.failed else 0
 
 

@@ -7,11 +7,7 @@
 need_program
 export SSIGN=$program
 keys_program=$root/tools/ssign-keys
-if ! python3 -c 'import cryptography' 2>/dev/null; then
-    echo "$name: no cryptography for python3 here (apt-get install python3-cryptography), so nothing is signed"
-    holds 'ssign-keys is there' test -x "$keys_program"
-    finish
-fi
+need_cryptography
 cd -- "$scratch" || exit 1
 # what was started and made here
 started=()
@@ -26,25 +22,11 @@ trap end EXIT
 mkdir keys
 "$keys_program" make keys >made || exit 1
 
-# adds WHAT COMMAND..: the checks of a script of Python, whose last line has its counts.
-adds() {
-    local what=$1 said counts
-    shift
-    said=$("$@" 2>&1)
-    counts=$(tail -n 1 <<<"$said" | grep -Eo '[0-9]+ passed, [0-9]+ failed$')
-    if [[ ! $counts ]]; then
-        tell "$what" "${said:-    it said nothing}"
-        return
-    fi
-    head -n -1 <<<"$said" | sed "s/^live_journal: skipped/$name: skipped/"
-    read -r more _ less _ <<<"${counts/,/}"
-    passed=$((passed + more)) failed=$((failed + less))
-}
 adds 'the journal' python3 -B "$root/tests/live_journal.py" "$program" keys
 if command -v syslog-ng >found; then
     adds 'syslog-ng' python3 -B "$root/tests/live_syslog_ng.py" "$program" keys
 else
-    echo "$name: no syslog-ng here (apt-get install syslog-ng-core), so it hands nothing over"
+    skip "no syslog-ng here (apt-get install syslog-ng-core), so it hands nothing over"
 fi
 
 # ---- a plain pipe
@@ -84,7 +66,7 @@ if command -v rsyslogd >found && ls /usr/lib/*/rsyslog/omprog.so >found 2>&1; th
     sed -i "s|/usr/bin/ssign-keys|/bin/true|" rsyslog.conf
     holds 'rsyslogd takes the example' rsyslogd -N 1 -f "$scratch/rsyslog.conf" -i "$scratch/rsyslog.pid"
 else
-    echo "$name: no rsyslogd with omprog here (apt-get install rsyslog), so nobody reads its example"
+    skip "no rsyslogd with omprog here (apt-get install rsyslog), so nobody reads its example"
 fi
 
 # ---- the key under another user, as in examples/systemd, without a systemd that runs
@@ -103,9 +85,9 @@ by() {
 }
 python=/usr/bin/python3
 if [[ $EUID != 0 ]] || ! command -v useradd setpriv >found; then
-    echo "$name: skipped the key under another user, because this isn't root, or there is no useradd"
+    skip "the key under another user, because this isn't root, or there is no useradd"
 elif ! command -v systemd-socket-activate >found || ! command -v socat >found; then
-    echo "$name: skipped the key under another user, which needs systemd-socket-activate and socat"
+    skip "the key under another user, which needs systemd-socket-activate and socat"
 else
     sealing=ssign-s-$$ signing=ssign-l-$$
     for it in "$sealing" "$signing"; do
@@ -113,7 +95,7 @@ else
     done
     chmod 711 "$scratch" && chmod 755 keys
     if ! by "$signing" "$python" -B -c 'import cryptography' 2>found || ! by "$signing" test -x "$program" -a -r "$keys_program"; then
-        echo "$name: skipped the key under another user, because another user can't run ssign-keys here"
+        skip "the key under another user, because another user can't run ssign-keys here"
     else
         install -d -o "$sealing" -m 700 seal && install -d -o "$signing" -m 700 live && install -d -m 755 run
         install -d -o "$sealing" -m 500 seal/credentials
@@ -123,7 +105,7 @@ else
             holds 'a credential is the key' cmp keys/private-key.pem seal/credentials/private-key.pem
             holds 'the encrypted credential has no key in it' test "$(grep -c 'PRIVATE KEY' key.cred)" = 0
         else
-            echo "$name: skipped systemd-creds, which can't encrypt here: $(head -c 200 found)"
+            skip "systemd-creds, which can't encrypt here: $(head -c 200 found)"
             cp keys/private-key.pem seal/credentials/private-key.pem
         fi
         chown "$sealing" seal/credentials/private-key.pem && chmod 400 seal/credentials/private-key.pem && chmod 600 keys/private-key.pem

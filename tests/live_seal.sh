@@ -6,11 +6,7 @@
 need_program
 export SSIGN=$program
 keys_program=$root/tools/ssign-keys
-if ! python3 -c 'import cryptography' 2>/dev/null; then
-    echo "$name: no cryptography for python3 here (apt-get install python3-cryptography), so nothing is signed"
-    holds 'ssign-keys is there' test -x "$keys_program"
-    finish
-fi
+need_cryptography
 cd -- "$scratch" || exit 1
 # what was started here; a server of a connection ends with it
 started=()
@@ -24,20 +20,6 @@ trap end EXIT
 mkdir keys
 "$keys_program" make keys >made || exit 1
 
-# adds WHAT COMMAND..: the checks of a script of Python, whose last line has its counts.
-adds() {
-    local what=$1 said counts
-    shift
-    said=$("$@" 2>&1)
-    counts=$(tail -n 1 <<<"$said" | grep -Eo '[0-9]+ passed, [0-9]+ failed$')
-    if [[ ! $counts ]]; then
-        tell "$what" "${said:-    it said nothing}"
-        return
-    fi
-    head -n -1 <<<"$said"
-    read -r more _ less _ <<<"${counts/,/}"
-    passed=$((passed + more)) failed=$((failed + less))
-}
 adds 'attacks' python3 -B "$root/tests/live_seal.py" "$program" keys
 
 # wait_for WHAT COMMAND..: waits until a command has status 0. It is a check where it never has.
@@ -92,7 +74,7 @@ over() {
 # ---- ssh
 sshd=$(command -v sshd || ls /usr/sbin/sshd 2>/dev/null)
 if [[ ! $sshd ]] || ! command -v ssh ssh-keygen >found; then
-    echo "$name: skipped ssh, which isn't here (apt-get install openssh-server)"
+    skip "ssh, which isn't here (apt-get install openssh-server)"
 else
     if [[ $EUID == 0 && ! -d /run/sshd ]] && mkdir -m 755 /run/sshd; then
         made_folder=/run/sshd
@@ -123,7 +105,7 @@ fi
 
 # ---- sockets
 if ! command -v socat >found; then
-    echo "$name: skipped sockets, because socat isn't here (apt-get install socat)"
+    skip "sockets, because socat isn't here (apt-get install socat)"
 else
     begin_state socat
     printf '#!/bin/sh\nexec %s\n' "$sealer" >sealer
@@ -133,7 +115,7 @@ else
     started+=("$server")
     wait_for 'socat listens' test -S socket && over socat "socat - UNIX-CONNECT:$scratch/socket" "$server"
     if ! command -v systemd-socket-activate >found; then
-        echo "$name: skipped systemd-socket-activate, which isn't here (apt-get install systemd)"
+        skip "systemd-socket-activate, which isn't here (apt-get install systemd)"
     else
         begin_state activated
         # shellcheck disable=SC2086 # words

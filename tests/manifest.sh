@@ -9,11 +9,8 @@ keys=$root/tools/ssign-keys
 cd -- "$scratch" || exit 1
 mkdir passing key nights
 export TMPDIR=$scratch/passing
-if ! "$keys" make key >out 2>err; then
-    echo "$name: skipped, since no key can be made here: $(head -c 300 err)"
-    echo "$name: 0 passed, 0 failed"
-    exit 0
-fi
+need_cryptography
+holds 'a key' "$keys" make key
 
 # tool WORD..: runs ssign-keys as `run` does the program.
 tool() {

@@ -20,7 +20,7 @@ if [[ $has_cryptography ]]; then
     holds 'nothing else is made' test "$(ls "$scratch/made/man")" = "$(printf '%s\n' "${pages[@]}" | sort)"
 else
     # the help of a command loads all of it
-    echo "$name: skipped what needs the help of ssign-keys, since the Python module cryptography is missing"
+    skip "what needs the help of ssign-keys, since the Python module cryptography is missing"
     holds 'make-pages says what is missing' grep -q '^make-pages: ssign-keys .* the Python module cryptography is missing' "$scratch/err"
     holds 'nothing is made' test ! -e "$scratch/made"
 fi
@@ -55,7 +55,7 @@ texts() {
 }
 
 if ! command -v man >"$scratch/out"; then
-    echo "$name: skipped what needs man, which is missing"
+    skip "what needs man, which is missing"
 else
     for page in "${pages[@]}"; do
         # a terminal and its width don't count
@@ -78,7 +78,7 @@ else
             holds "lexgrog finds the name of man/$page" grep -qF "\"${page%.*} - " <(lexgrog "$root/man/$page")
         done
     else
-        echo "$name: skipped what needs lexgrog, which is missing"
+        skip "what needs lexgrog, which is missing"
     fi
 
     # compare PAGE COMMAND..: the commands of a program, each with its options, and the program's own.
@@ -127,7 +127,7 @@ if command -v mandoc >"$scratch/out"; then
         holds "mandoc complains of nothing in man/$page" mandoc -Tlint -Wall "$root/man/$page"
     done
 else
-    echo "$name: skipped what needs mandoc, which is missing"
+    skip "what needs mandoc, which is missing"
 fi
 
 finish

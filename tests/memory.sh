@@ -38,7 +38,7 @@ plays() {
 if command -v cc >/dev/null; then
     holds 'refuse.c is compiled' cc -shared -fPIC -o "$scratch/refuse.so" "$root/tests/refuse.c" -ldl
 else
-    echo "$name: no cc here, so no allocation is refused"
+    skip "no cc here, so no allocation is refused"
 fi
 plays "$rows" frames::failing::goes_on_after_want_of_memory frames::streams::streams
 plays "$rows" blocks::joining::sequences blocks::joining::longest

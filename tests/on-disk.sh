@@ -4,11 +4,7 @@
 # shellcheck source=tests/lib.sh
 . "$(dirname -- "$0")/lib.sh"
 need_program
-if ! python3 -c 'import cryptography' 2>"$scratch/err"; then
-    echo "$name: skipped, since the Python module cryptography is missing"
-    holds 'ssign-keys is there' test -x "$root/tools/ssign-keys"
-    finish
-fi
+need_cryptography
 mkdir -- "$scratch/keys"
 holds 'a key pair' "$root/tools/ssign-keys" make "$scratch/keys"
 said=$(python3 -B "$root/tests/on_disk.py" "$root/tools/ssign-keys" "$program" "$scratch/keys" 2>&1) && fault='' || fault=$said

@@ -55,7 +55,7 @@ sys.exit(int(setuptools.__version__.split(".")[0]) < 61)' 2>err || continue
     break
 done
 if [[ ! $builder ]]; then
-    echo "$name: skipped what needs pip, venv, wheel and setuptools 61 for Python, which are missing"
+    skip "what needs pip, venv, wheel and setuptools 61 for Python, which are missing"
     finish
 fi
 mkdir source
@@ -94,7 +94,7 @@ if there/bin/python -c 'import cryptography' 2>err; then
     as_launcher 'a verdict' ssign-keys ssign-keys verify --key "$signed/public-key.pem" "$signed/signed.frames"
     holds 'which is one' grep -q '^Verdict: All 10 announced messages are present' out
 else
-    echo "$name: skipped a verdict, because the Python module cryptography is missing"
+    skip "a verdict, because the Python module cryptography is missing"
 fi
 mkdir -p logs/gate && cp -- "$root/examples/signed/signed.frames" logs/gate/
 as_launcher 'the messages of a part' ssign-archive archive join logs/gate

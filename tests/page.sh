@@ -6,11 +6,7 @@
 need_program
 export SSIGN=$program
 keys_program=$root/tools/ssign-keys
-if ! python3 -c 'import cryptography' 2>/dev/null; then
-    echo "$name: no cryptography for python3 here (apt-get install python3-cryptography), so nothing of ssign-keys is run"
-    holds 'ssign-keys is there' test -x "$keys_program"
-    finish
-fi
+need_cryptography
 mkdir -- "$scratch/passing"
 export TMPDIR=$scratch/passing
 cd -- "$scratch" || exit 1
@@ -49,7 +45,7 @@ if [[ $status == 0 ]]; then
     holds 'the script of the repository names the program' test "$("$root/ssign" --which)" = "$(pages member out ssign.path)"
     holds 'the SHA-256 is that of the program' test "$(sha256sum <"$("$root/ssign" --which)" | cut -d ' ' -f 1)" = "$(pages member out ssign.sha256)"
 else
-    echo "$name: no program is of these sources, so the script of the repository isn't tried"
+    skip "no program is of these sources, so the script of the repository isn't tried"
 fi
 folder=$(pages member out tool.path)
 holds 'the SHA-256 of the tool' test "$(cd "$folder" && LC_ALL=C sha256sum -- *.py */*.py | sha256sum | cut -d ' ' -f 1)" = "$(pages member out tool.sha256)"
@@ -169,7 +165,7 @@ if openssl req -x509 -new -key private-key.pem -utf8 -days 9999 -subj $'/CN=<scr
     [[ -s evil.crt ]]; then
     given+=(--cert evil.crt)
 else
-    echo "$name: no openssl that makes a certificate here, so none with a hostile name is tried"
+    skip "no openssl that makes a certificate here, so none with a hostile name is tried"
 fi
 page hostile 1 "${given[@]}" "$evil" signed hostile.frames
 holds 'hostile: a name is spelled' grep -qF '&lt;img src=x onerror=alert(1)&gt;\x1b[31m\xe2\x80\xae\xe3\x85\xa4&amp;amp;' hostile.html
@@ -263,7 +259,7 @@ fi
 # ---- in Chromium, where it is installed: what it says, asks for and draws. It reaches no network.
 browser=$(command -v chromium || command -v chromium-browser || command -v google-chrome)
 if [[ -z $browser ]]; then
-    echo "$name: no chromium here (apt-get install chromium), so no page is looked at in a browser"
+    skip "no chromium here (apt-get install chromium), so no page is looked at in a browser"
 else
     apart=()
     unshare -rn true 2>unshare.log && apart=(unshare -rn)
@@ -299,7 +295,7 @@ else
         holds "on paper, $1: what the first sheet names" grep -qF "$3" <(pdftotext -f 1 -l 1 page.pdf - | tr '\n' ' ')
     }
     if ! command -v pdfinfo >"$scratch/out" || ! command -v pdftotext >"$scratch/out"; then
-        echo "$name: no pdfinfo here (apt-get install poppler-utils), so no page is looked at on paper"
+        skip "no pdfinfo here (apt-get install poppler-utils), so no page is looked at on paper"
     else
         sheets changed.html 2 'is likely changed or replaced'
         if [[ -z ${SSIGN_SMALL-} ]]; then

@@ -20,7 +20,7 @@ example() {
     local wanted=${BASH_REMATCH[1]}
     if [[ $command == *./tools/ssign-keys\ * ]]; then
         if ! python3 -c 'import cryptography' 2>"$scratch/err"; then
-            echo "$name: $file: $command: skipped, since the Python module cryptography is missing"
+            skip "$file: $command: the Python module cryptography is missing"
             return
         fi
         SSIGN=$program timeout "$patience" bash -c "$command" >"$scratch/out" 2>"$scratch/err"

@@ -5,11 +5,7 @@
 . "$(dirname -- "$0")/lib.sh"
 need_program
 units=$root/examples/systemd
-if ! python3 -c 'import cryptography' 2>"$scratch/err"; then
-    echo "$name: skipped, since the Python module cryptography is missing"
-    holds 'the unit that signs is there' test -s "$units/ssign-sign.service"
-    finish
-fi
+need_cryptography
 cd -- "$scratch" || exit 1
 export SSIGN=$program
 mkdir bin keys logs
@@ -59,7 +55,7 @@ if command -v systemd-analyze >out; then
         done
     fi
 else
-    echo "$name: skipped what needs systemd-analyze, which is missing"
+    skip "what needs systemd-analyze, which is missing"
 fi
 signing=$(sed -n 's/^ExecStart=//p' "$units/ssign-sign.service")
 holds 'the unit signs the folder of the recipe' test "$signing" = \
@@ -72,8 +68,7 @@ chmod 711 "$scratch"
 chmod 2750 logs
 if ! as_signer "$python" -B -c 'import cryptography' 2>said ||
     ! as_signer test -x "$program" -a -r "$root/tools/ssign-keys"; then
-    echo "$name: skipped the recipe, because another user can't run ssign-keys here"
-    finish
+    leave_out "another user can't run ssign-keys here, so the recipe isn't tried"
 fi
 keys make "$scratch/keys"
 holds 'the user that signs makes its key' test "$status" = 0
@@ -107,7 +102,7 @@ if command -v logrotate >out; then
     holds 'logrotate rotates' test "$?" = 0
     holds 'the daemon opens the new log' test "$(<told)" = '-HUP -x rsyslogd'
 else
-    echo "$name: skipped what needs logrotate, which is missing"
+    skip "what needs logrotate, which is missing"
     mv "$log" "$log-$(date +%Y%m%d)"
     : >"$log"
 fi

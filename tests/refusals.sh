@@ -9,6 +9,7 @@ if command -v cc >/dev/null; then
     words=("$scratch/refuse.so")
     cc -shared -fPIC -o "${words[0]}" "$root/tests/refuse.c" -ldl || exit 1
 else
-    echo "$name: no cc here, so no allocation is refused"
+    skip "no cc here, so no allocation is refused"
 fi
-python3 -B "$root/tests/refusals.py" "$program" "${words[@]}" "$@"
+adds refusals.py python3 -B "$root/tests/refusals.py" "$program" "${words[@]}" "$@"
+finish

@@ -10,10 +10,6 @@ for it in tool_timing tool_originated tool_reviewed; do
     programs+=("$made")
 done
 need_program
-if ! command -v cc >/dev/null; then
-    echo "$name: no cc here, so no memory is counted"
-    tell 'the programs are there' ''
-    finish
-fi
+need_command cc
 cc -O1 -shared -fPIC -o "$scratch/count.so" "$root/tests/count.c" -ldl || exit 1
 python3 -B "$root/tests/room.py" "$scratch/count.so" "${programs[@]}" "$program" "$@"

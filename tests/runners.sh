@@ -1,13 +1,14 @@
 #!/usr/bin/env bash
 # What runs the tests: which program tests/lib.sh takes, what tests/all.sh (`make test`) says and how it ends, and that
-# .ci/run ends as ./check does whatever becomes of the tools that it installs. All of it in a copy with scripts, a gate and
-# a package manager that are made up.
+# .ci/run ends as ./check does whatever becomes of the tools that ./setup installs. All of it in a copy with scripts, a gate
+# and a setup that are made up.
 # shellcheck source=tests/lib.sh
 . "$(dirname -- "$0")/lib.sh"
 copy=$scratch/copy
-mkdir -p -- "$copy/tests" "$copy/.ci" "$scratch/bin" "$scratch/passing"
+mkdir -p -- "$copy/tests" "$copy/.ci" "$scratch/passing"
 (cd -- "$root" && tar -c --exclude='crates/*/out' crates.txt crates/*/src crates/*/specs release Makefile) | tar -x -C "$copy"
-cp -- "$root/tests/lib.sh" "$root/tests/all.sh" "$root/tests/install-tools.sh" "$copy/tests/"
+cp -- "$root/tests/lib.sh" "$root/tests/all.sh" "$copy/tests/"
+cp -- "$root/setup" "$copy/setup"
 cp -- "$root/.ci/run" "$copy/.ci/run"
 cp -- "$root/check" "$copy/check"
 chmod 755 "$copy/tests/all.sh" "$copy/.ci/run"
@@ -53,10 +54,10 @@ if "$recorded" --version </dev/null >out 2>&1; then
     kept bash tests/shows.sh
     expect 'the recorded program of other sources' 1 "shows: there is no program $built, and the recorded one is of other sources; ./ssign --build builds one"$'\n''shows: 0 passed, 1 failed' ''
     kept tests/all.sh shows
-    expect 'all.sh with no program' 1 "all: there is no program $built, and the recorded one is of other sources; ./ssign --build builds one"$'\n''0 passed, 1 failed' ''
+    expect 'all.sh with no program' 1 "all: there is no program $built, and the recorded one is of other sources; ./ssign --build builds one"$'\n''0 passed, 1 failed, 0 skipped' ''
     cp -- "$root/crates.txt" crates.txt
 else
-    echo "$name: skipped the recorded program, since it doesn't run here"
+    skip "the recorded program, because it doesn't run here"
 fi
 printf 'no program' >"$scratch/other"
 cp -- "$recorded" "$scratch/recorded" && cp -- "$scratch/other" "$recorded"
@@ -87,7 +88,7 @@ all() {
     shift 3
     kept tests/all.sh -j 2 "$@"
     tell "$what" "$([[ $status == "$wanted" && $(tail -n 1 "$scratch/out") == "$last" && ! -s $scratch/err ]] || cat "$scratch/out" "$scratch/err"
-        [[ $(grep -cE '^[0-9]+ passed, [0-9]+ failed$' "$scratch/out") == 1 ]] || echo 'more than one line of bare counts')"
+        [[ $(grep -cE '^[0-9]+ passed, [0-9]+ failed, [0-9]+ skipped$' "$scratch/out") == 1 ]] || echo 'more than one line of bare counts')"
 }
 ends good '3 passed, 0 failed' 0
 ends better '4 passed, 0 failed' 0
@@ -95,23 +96,57 @@ ends bad '5 passed, 2 failed' 1
 ends lying '6 passed, 0 failed' 1
 printf 'echo "silent: all is well"\n' >tests/silent.sh
 printf 'kill -9 $$\n' >tests/killed.sh
-all 'two that pass' 0 '7 passed, 0 failed' good better
-all 'one that fails' 1 '8 passed, 2 failed' good bad
-all 'a status that belies the counts' 1 '6 passed, 1 failed' lying
-all 'no counts' 1 '3 passed, 1 failed' good silent
+all 'two that pass' 0 '7 passed, 0 failed, 0 skipped' good better
+all 'one that fails' 1 '8 passed, 2 failed, 0 skipped' good bad
+all 'a status that belies the counts' 1 '6 passed, 1 failed, 0 skipped' lying
+all 'no counts' 1 '3 passed, 1 failed, 0 skipped' good silent
 holds 'what a script that failed said is shown' grep -qx 'silent: all is well' "$scratch/out"
-all 'a script that is killed' 1 '3 passed, 1 failed' good killed
-all 'one that is left out' 0 '3 passed, 0 failed' good made
+all 'a script that is killed' 1 '3 passed, 1 failed, 0 skipped' good killed
+all 'one that is left out' 0 '3 passed, 0 failed, 1 skipped' good made
 holds 'it is named, with why' grep -qx "    made: left out: crates/tool/out/tool isn't here, which ./check makes" "$scratch/out"
-all 'all that there is is left out' 1 '0 passed, 0 failed' made
-SSIGN_GATE=1 all 'nor does a variable of the gate count' 0 '3 passed, 0 failed' good made
+all 'all that there is is left out' 1 '0 passed, 0 failed, 1 skipped' made
+SSIGN_GATE=1 all 'nor does a variable of the gate count' 0 '3 passed, 0 failed, 1 skipped' good made
 kept tests/all.sh --gate -j 2 good made
-tell 'in the gate it has failed' "$([[ $status == 1 && $(tail -n 1 "$scratch/out") == '3 passed, 1 failed' ]] || cat "$scratch/out" "$scratch/err")"
-printf 'echo "some: skipped what needs it, which is missing"\necho "some: no it here, so nothing is run"\necho "some: 1 passed, 0 failed"\n' >tests/some.sh
-all 'one that skips some' 0 '1 passed, 0 failed' some
-holds 'both of its lines are repeated' test "$(grep -c '^    some: ' "$scratch/out")" = 2
+tell 'in the gate it has failed' "$([[ $status == 1 && $(tail -n 1 "$scratch/out") == '3 passed, 1 failed, 0 skipped' ]] || cat "$scratch/out" "$scratch/err")"
+script some <<'S'
+skip 'what needs it, which is missing'
+skip 'no it here, so nothing is run'
+tell it ''
+finish
+S
+all 'one that skips some' 0 '1 passed, 0 failed, 2 skipped' some
+holds 'both of its lines are repeated' test "$(grep -c '^    some: skipped: ' "$scratch/out")" = 2
+script late <<'S'
+tell it ''
+leave_out 'the rest needs more'
+S
+all 'one that is left out after a check' 0 '1 passed, 0 failed, 1 skipped' late
+script nothing <<'S'
+skip 'all of it'
+finish
+S
+all 'one that skips all' 1 '0 passed, 0 failed, 1 skipped' nothing
+all 'that is no failure of the run' 0 '3 passed, 0 failed, 1 skipped' nothing good
+script adding <<'S'
+adds 'what is good' printf 'other: skipped: a thing\nother: 5 passed, 2 failed, 1 skipped\n'
+adds 'what says nothing' true
+finish
+S
+kept bash tests/adding.sh
+expect 'counts that are added' 1 $'adding: skipped: a thing\nadding: what says nothing: FAILED\n    it said nothing\nadding: 5 passed, 3 failed, 1 skipped' ''
+# without Python, and with one that is too old
+script asks <<'S'
+python3 -c pass
+tell it ''
+finish
+S
+kept env SSIGN_NO_PYTHON=1 bash tests/asks.sh
+expect 'no Python: a script that needs it' 77 'asks: left out: Python 3.9 or newer is missing' ''
+kept env SSIGN_NO_PYTHON=1 bash tests/some.sh
+expect 'no Python: another one' 0 $'some: skipped: what needs it, which is missing\nsome: skipped: no it here, so nothing is run\nsome: 1 passed, 0 failed, 2 skipped' ''
+rm -- tests/{late,nothing,adding,asks,some}.sh
 rm -- tests/{bad,lying,silent,killed}.sh
-all 'all of them' 0 '9 passed, 0 failed'
+all 'all of them' 0 '8 passed, 0 failed, 1 skipped'
 # are_gone FILE..: whether the processes whose numbers stand in the files have ended.
 # shellcheck disable=SC2317
 are_gone() {
@@ -148,45 +183,25 @@ for words in '-j' '-j 0' '-j x' '-x' 'none' '../all' ''; do
 done
 if command -v make >"$scratch/out"; then
     kept make -s test JOBS=2
-    tell 'make test' "$([[ $status == 0 && $(tail -n 1 "$scratch/out") == '9 passed, 0 failed' ]] || cat "$scratch/out" "$scratch/err")"
+    tell 'make test' "$([[ $status == 0 && $(tail -n 1 "$scratch/out") == '8 passed, 0 failed, 1 skipped' ]] || cat "$scratch/out" "$scratch/err")"
 else
-    echo "$name: skipped make test, since make is missing"
+    skip "make test, because make is missing"
 fi
 
 # ---- .ci/run
-# the gate of the copy says what it was given; a package manager says that it was asked
+# the gate and the setup of the copy say what they were given
 # shellcheck disable=SC2016
 printf '#!/bin/sh\necho "CI is $CI"\n[ -t 0 ] || read -r it || echo "no standard input"\necho "5 passed, 1 failed"\nexit 1\n' >check
-printf '#!/bin/sh\necho "$*" >>"%s/asked"\n. "%s/does"\n' "$scratch" "$scratch" >"$scratch/bin/apt-get"
-chmod 755 check "$scratch/bin/apt-get"
-for it in bash sh cat tail mktemp rm dirname timeout env; do
-    ln -s -- "$(command -v "$it")" "$scratch/bin/$it"
-done
+printf '#!/bin/sh\necho "setup $*"\nexit "$ENDS"\n' >setup
+chmod 755 check setup
 gate='CI is true'$'\n''no standard input'$'\n''5 passed, 1 failed'
-# ci WHAT DOES SAID: one check of .ci/run, where nothing but these tools is in PATH and apt-get does this.
-ci() {
-    printf '%s\n' "$2" >"$scratch/does"
-    rm -f "$scratch/asked"
-    PATH=$scratch/bin CI=true kept "$copy/.ci/run"
-    expect "$1" 1 "$3${3:+$'\n'}$gate" ''
-}
-if [[ $EUID == 0 ]]; then
-    ci 'it installs' 'exit 0' ''
-    holds 'it asked for the list, and then for the package' test "$(grep -Eo '(update|install .*)$' "$scratch/asked")" = $'update\ninstall -y --no-install-recommends parallel'
-    ci 'the network gives nothing' 'echo "E: no network" >&2; exit 100' "install-tools: parallel can't be installed: E: no network"
-    sed -i 's/timeout -k 10 300/timeout -k 1 2/' tests/install-tools.sh
-    ci 'the network hangs' 'while :; do :; done' "install-tools: parallel can't be installed: "
-    rm -- "$scratch/bin/apt-get"
-    ci 'no apt-get' '' "install-tools: this isn't root, or has no apt-get; tests will skip what needs parallel"
-else
-    echo "$name: skipped what installs, which needs root"
-fi
-printf '#!/bin/sh\n' >"$scratch/bin/parallel" && chmod 755 "$scratch/bin/parallel"
-ci 'all is there' 'echo "asked for nothing"' ''
-holds 'then nothing is installed' test ! -e "$scratch/asked"
+CI=true ENDS=0 kept "$copy/.ci/run"
+expect 'it installs, and is the gate' 1 $'setup tools\n'"$gate" ''
+CI=true ENDS=3 kept "$copy/.ci/run"
+expect 'nothing can be installed, and it goes on' 1 $'setup tools\n'"$gate" 'run: ./setup tools ended with status 3; the tests skip what needs the rest'
 
-# ---- no test installs
-found=$(cd -- "$root" && grep -lE '(apt|apt-get|dpkg) (-[^ ]+ )*install |install-tools\.sh' tests/*.sh | grep -vE '/(runners|install-tools)\.sh$' |
-    xargs -r grep -nE '^[^"#'\'']*((apt|apt-get) .*install |install-tools\.sh)' | grep -v '^tests/all.sh')
+# ---- no test installs on this machine
+found=$(cd -- "$root" && grep -lE '(apt|apt-get|dpkg) (-[^ ]+ )*install |setup (run|test|tools)' tests/*.sh | grep -vE '/(runners|setup)\.sh$' |
+    xargs -r grep -nE '^[^"#'\'']*((apt|apt-get) .*install |setup (run|test|tools))')
 tell 'no test installs anything' "$found"
 finish

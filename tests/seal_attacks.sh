@@ -4,11 +4,7 @@
 # shellcheck source=tests/lib.sh
 . "$(dirname -- "$0")/lib.sh"
 need_program
-if ! python3 -c 'import cryptography' 2>"$scratch/err"; then
-    echo "$name: no cryptography for python3 here (apt-get install python3-cryptography), so nothing is sealed"
-    holds 'ssign-keys is there' test -x "$root/tools/ssign-keys"
-    finish
-fi
+need_cryptography
 cd -- "$scratch" || exit 1
 mkdir long other work
 "$root/tools/ssign-keys" make long

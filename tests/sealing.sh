@@ -7,11 +7,7 @@
 need_program
 export SSIGN=$program
 keys_program=$root/tools/ssign-keys
-if ! python3 -c 'import cryptography' 2>/dev/null; then
-    echo "$name: no cryptography for python3 here (apt-get install python3-cryptography), so nothing is signed"
-    holds 'ssign-keys is there' test -x "$keys_program"
-    finish
-fi
+need_cryptography
 cd -- "$scratch" || exit 1
 
 # keys ARG..: runs ssign-keys as `run` does the program.
@@ -55,7 +51,7 @@ if openssl genpkey -genparam -algorithm DSA -pkeyopt dsa_paramgen_bits:2048 -pke
     refuses '--ver 0111 and a q of 224 bits' \
         '--ver 0111 has a hash of 160 bits, and the number q of the key has 224: leave --ver out, or use another key'
 else
-    echo "$name: openssl makes no key whose q has 224 bits here, so none is tried"
+    skip "a key whose q has 224 bits, because openssl makes none here"
 fi
 keys sign --key long/private-key.pem --rsid 1 --ver 0111 log
 refuses '--ver 0111 and a q of 256 bits' \
@@ -160,7 +156,7 @@ if text=$(certified long); then
     signs_payload 'a certificate of the key' "$text"
     wrong_payload 'a certificate of another key' "$(certified short)" "has the type C, $other"
 else
-    echo "$name: openssl makes no certificate here, so none is tried"
+    skip "certificates, because openssl makes none here"
 fi
 if command -v gpg >openssl.said && python3 -c 'import cryptography' 2>err; then
     # gpg makes a key of DSA of its own, and not of a file: it is another one
@@ -171,7 +167,7 @@ if command -v gpg >openssl.said && python3 -c 'import cryptography' 2>err; then
     fi
     gpgconf --homedir gpg --kill all 2>err
 else
-    echo "$name: no gpg here, so no OpenPGP key is tried"
+    skip "no gpg here, so no OpenPGP key is tried"
 fi
 
 # ---- a private key that is none: y isn't that of x, in the form of openssl, which states both

@@ -4,11 +4,7 @@
 # shellcheck source=tests/lib.sh
 . "$(dirname -- "$0")/lib.sh"
 need_program
-if ! python3 -c 'import cryptography' 2>"$scratch/err"; then
-    echo "$name: skipped, since the Python module cryptography is missing"
-    holds 'ssign-keys is there' test -x "$root/tools/ssign-keys"
-    finish
-fi
+need_cryptography
 export SSIGN=$program
 cd -- "$scratch" || exit 1
 mkdir keys passing

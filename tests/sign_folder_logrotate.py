@@ -18,6 +18,7 @@ import time
 
 from folder_model import Wrong, check_chain, read_folder
 from folder_runs import Box
+import skips
 
 WAYS = {
     "dates": "dateext\ndateformat -%Y%m%d-%s",
@@ -100,8 +101,8 @@ def try_way(box, way, signs_live, is_same=False):
 
 def main():
     if shutil.which("logrotate", path=os.environ["PATH"] + ":/usr/sbin:/sbin") is None:
-        print("sign_folder_logrotate: skipped, because logrotate is missing")
-        print("sign_folder_logrotate: 1 passed, 0 failed")
+        skips.skip("sign_folder_logrotate", "logrotate is missing")
+        print(f"sign_folder_logrotate: 0 passed, 0 failed{skips.more()}")
         return 0
     os.environ["PATH"] += ":/usr/sbin:/sbin"
     with tempfile.TemporaryDirectory() as scratch:

@@ -6,11 +6,8 @@
 need_program
 export SSIGN=$program
 keys_program=$root/tools/ssign-keys
-if ! python3 -c 'import cryptography' 2>/dev/null || ! command -v openssl >/dev/null; then
-    echo "$name: no cryptography for python3, or no openssl here, so no time stamp is made"
-    holds 'ssign-keys is there' test -x "$keys_program"
-    finish
-fi
+need_cryptography
+need_command openssl
 mkdir -- "$scratch/passing"
 export TMPDIR=$scratch/passing
 cd -- "$scratch" || exit 1
@@ -466,7 +463,7 @@ if mount -t tmpfs -o size=8k none small 2>mount.log; then
     holds 'a full disk: nothing is kept' test "$(ls -A small)" = $'counters\nfiller'
     umount small
 else
-    echo "$name: no small disk can be made here, so none is full"
+    skip "no small disk can be made here, so none is full"
 fi
 (ulimit -f 1 && exec "$keys_program" stamp counters --tsa-command "$answer made" --tsa-ca trial/ca.pem --out limit.tsr) >out 2>err
 status=$?

@@ -6,11 +6,7 @@
 need_program
 export SSIGN=$program
 keys_program=$root/tools/ssign-keys
-if ! python3 -c 'import cryptography' 2>/dev/null; then
-    echo "$name: no cryptography for python3 here (apt-get install python3-cryptography), so nothing of ssign-keys is run"
-    holds 'ssign-keys is there' test -x "$keys_program"
-    finish
-fi
+need_cryptography
 mkdir -- "$scratch/passing"
 export TMPDIR=$scratch/passing
 cd -- "$scratch" || exit 1
@@ -148,7 +144,7 @@ $((1100 - $(wc -l <called))) certificates were not checked, and no payload with 
     holds 'at one time: one process' test "$(wc -l <called)" = 1
     holds 'at one time: all are trusted' test "$(grep -c ^trust out)" = 1100
 else
-    echo "$name: no openssl here, or no certificates can be made, so no certificate is asked about"
+    skip "no openssl here, or no certificates can be made, so no certificate is asked about"
 fi
 holds 'no passing file is left' test -z "$(ls -A -- "$TMPDIR")"
 

@@ -11,11 +11,12 @@ is_shell() {
     IFS= read -r first <"$1" 2>"$scratch/fault" && [[ $first =~ ^'#!'.*/(env\ )?(ba)?sh$ ]]
 }
 shells=(tests/lib.sh)
+pythons=(tools/ssign-keys tools/archive tools/make-pages)
 while IFS= read -r -d '' file; do
-    is_shell "$file" && shells+=("$file")
+    # the first lines of these are a shell's, and the rest is Python
+    [[ " ${pythons[*]} " == *" ${file#./} "* ]] || { is_shell "$file" && shells+=("$file"); }
 done < <(find . \( -path ./.git -o -path ./crates -o -path ./build -o -path ./release/'new.*' \) -prune -o -type f ! -name '*.frames' -print0 |
     sort -z)
-pythons=(tools/ssign-keys tools/archive tools/make-pages)
 while IFS= read -r -d '' file; do
     pythons+=("$file")
 done < <(find tools tests bench examples -name '*.py' -print0 | sort -z)
@@ -47,7 +48,7 @@ passes() {
         said=$("$@" 2>&1) && said=''
         tell "$1" "$said"
     else
-        echo "$name: skipped $1, which is missing"
+        skip "$1, which is missing"
     fi
 }
 passes shellcheck -f gcc -- "${shells[@]}"

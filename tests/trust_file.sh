@@ -4,11 +4,7 @@
 # shellcheck source=tests/lib.sh
 . "$(dirname -- "$0")/lib.sh"
 need_program
-if ! python3 -c 'import cryptography' 2>"$scratch/err"; then
-    echo "$name: skipped, since the Python module cryptography is missing"
-    holds 'ssign-keys is there' test -x "$root/tools/ssign-keys"
-    finish
-fi
+need_cryptography
 cd -- "$scratch" || exit 1
 SSIGN=$program python3 -B "$root/tests/trust_file.py" "$root/tools" >told 2>err
 holds 'the cases run to their end' test "$?" = 0 -a ! -s err

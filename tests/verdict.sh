@@ -5,11 +5,7 @@
 . "$(dirname -- "$0")/lib.sh"
 need_program
 keys_program=$root/tools/ssign-keys
-if ! python3 -c 'import cryptography' 2>/dev/null; then
-    echo "$name: no cryptography for python3 here (apt-get install python3-cryptography), so nothing of ssign-keys is run"
-    holds 'ssign-keys is there' test -x "$keys_program"
-    finish
-fi
+need_cryptography
 export SSIGN=$program
 cd -- "$scratch" || exit 1
 mkdir passing made made/keys other

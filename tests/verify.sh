@@ -6,11 +6,7 @@
 need_program
 export SSIGN=$program
 keys_program=$root/tools/ssign-keys
-if ! python3 -c 'import cryptography' 2>/dev/null; then
-    echo "$name: no cryptography for python3 here (apt-get install python3-cryptography), so nothing of ssign-keys is run"
-    holds 'ssign-keys is there' test -x "$keys_program"
-    finish
-fi
+need_cryptography
 # passing files go to a folder that has to be empty at the end
 mkdir -- "$scratch/passing"
 export TMPDIR=$scratch/passing
@@ -136,7 +132,7 @@ if command -v zstd >/dev/null; then
     holds 'damaged: zst: status 2' test "$status" = 2
     holds 'damaged: zst: what is said' grep -q '^ssign-keys: broken is compressed by zstd and damaged, so there is no verdict: ' err
 else
-    echo "$name: no zstd here, so logs that it compressed are left out"
+    skip "no zstd here, so logs that it compressed are left out"
 fi
 nothing_shown='Nothing in this log is shown to be authentic. Whatever was signed may have been taken out.'
 printf '' >void

@@ -52,7 +52,7 @@ read_page
 has_keys=yes
 if ! python3 -c 'import cryptography' 2>/dev/null; then
     has_keys=
-    echo "$name: no cryptography for python3 here, so only what examples/README.md does without keys is done"
+    skip "no cryptography for python3 here, so only what examples/README.md does without keys is done"
 fi
 # ssign-keys runs this program too
 export SSIGN=$program

@@ -2,11 +2,7 @@
 # Keys with which anybody can sign, and others that are none of DSA, by each way in which a key is given: weak_keys.py.
 # shellcheck source=tests/lib.sh
 . "$(dirname -- "$0")/lib.sh"
-if ! python3 -c 'import cryptography' 2>/dev/null; then
-    echo "$name: no Python module cryptography here, so no key is tried"
-    holds 'ssign-keys is there' test -x "$root/tools/ssign-keys"
-    finish
-fi
+need_cryptography
 mkdir -- "$scratch/one" "$scratch/weak"
 holds 'a good key' "$root/tools/ssign-keys" make --ver 0111 "$scratch/one"
 said=$(python3 -B "$root/tests/weak_keys.py" "$root/tools" "$scratch/one/private-key.pem" "$scratch/weak" 2>&1) && fault='' || fault=$said

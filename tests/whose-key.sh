@@ -7,13 +7,8 @@
 need_program
 export SSIGN=$program
 keys_program=$root/tools/ssign-keys
-for each in "python3 -c 'import cryptography'" 'openssl version'; do
-    if ! eval "$each" >/dev/null 2>&1; then
-        echo "$name: \`$each\` fails here, so nothing is tried"
-        holds 'ssign-keys is there' test -x "$keys_program"
-        finish
-    fi
-done
+need_cryptography
+need_command openssl
 cd -- "$scratch" || exit 1
 # keys ARG..: runs ssign-keys as `run` does the program.
 keys() {
@@ -318,6 +313,6 @@ check_gpg() {
 if command -v gpg >/dev/null; then
     check_gpg
 else
-    echo "$name: no gpg here, so no revoked and no expired OpenPGP key is tried"
+    skip "no gpg here, so no revoked and no expired OpenPGP key is tried"
 fi
 finish

@@ -6,11 +6,7 @@
 need_program
 export SSIGN=$program
 keys_program=$root/tools/ssign-keys
-if ! python3 -c 'import cryptography' 2>/dev/null; then
-    echo "$name: no cryptography for python3 here (apt-get install python3-cryptography), so nothing of ssign-keys is run"
-    holds 'ssign-keys is there' test -x "$keys_program"
-    finish
-fi
+need_cryptography
 cd -- "$scratch" || exit 1
 
 # keys ARG..: runs ssign-keys as `run` does the program.
@@ -119,7 +115,7 @@ CONF
     cp rsyslog.log odd.log
     clean 'a file of rsyslog' signed
 else
-    echo "$name: skipped a file of rsyslog, which isn't here (apt-get install rsyslog)"
+    skip "a file of rsyslog, which isn't here (apt-get install rsyslog)"
 fi
 
 finish

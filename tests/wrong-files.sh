@@ -3,11 +3,8 @@
 # and what is wanted. Files of openssl, ssh-keygen and gpg, where these are installed, and some by hand.
 # shellcheck source=tests/lib.sh
 . "$(dirname -- "$0")/lib.sh"
-if ! python3 -c 'import cryptography' 2>/dev/null || ! command -v openssl >/dev/null; then
-    echo "$name: no Python module cryptography or no openssl here, so no file is tried"
-    holds 'ssign-keys is there' test -x "$root/tools/ssign-keys"
-    finish
-fi
+need_cryptography
+need_command openssl
 cd -- "$scratch" || exit 1
 keys_program=$root/tools/ssign-keys
 mkdir one folder
