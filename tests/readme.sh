@@ -1,8 +1,9 @@
 #!/usr/bin/env bash
-# The examples of README.md and docs/guide.md: a block that is one line with `./ssign`, or with `./tools/ssign-keys` and a
-# file of examples/, is a command, the block after it is what the program prints, and between the two stands `status N`.
-# Where the command has `./ssign` twice, the last one prints. The same holds of the README of the crate `ssign`. What
-# the README of each crate has to be, and where the example of a library stands, crate_readmes.py says.
+# The examples of README.md and of the pages for users: a block that is one line with `./ssign`, or with `./tools/ssign-keys`
+# and a file of examples/, is a command, the block after it is what the program prints, and between the two stands `status N`.
+# Where the command has `./ssign` twice, the last one prints. The same holds of the README of the crate `ssign`. The blocks
+# of README.md that sign and verify are run one after the other, and README.md has at most 900 words. What the README of
+# each crate has to be, and where the example of a library stands, crate_readmes.py says.
 # shellcheck source=tests/lib.sh
 . "$(dirname -- "$0")/lib.sh"
 need_program
@@ -61,9 +62,42 @@ examples() {
     [[ -z $command ]] || tell "$file: $command" '    its output is not shown'
 }
 
-examples README.md
-examples docs/guide.md
-examples crates/ssign/README.md
+# block FILE HEADING: the first block after a heading.
+block() {
+    awk -v heading="$2" '/^#/ { inside = $0 == heading; next }
+        inside && /^    / { found = 1; print substr($0, 5); next } inside && found { exit }' "$1"
+}
+
+# in_order: the blocks of README.md below these headings, by one shell. The last line of two of them is a verdict.
+in_order() {
+    local heading fault
+    if ! python3 -c 'import cryptography' 2>"$scratch/fault"; then
+        skip 'the blocks of README.md that sign: the Python module cryptography is missing'
+        return
+    fi
+    echo 'set -e; mktemp() { mkdir -- "$scratch/trial" && echo "$scratch/trial"; }' >"$scratch/blocks"
+    for heading in Sign Verify Live; do
+        block README.md "## $heading" >"$scratch/block"
+        fault=''
+        [[ $(wc -l <"$scratch/block") =~ ^[1-3]$ ]] || fault="    it has $(wc -l <"$scratch/block") lines"
+        tell "README.md, $heading: a block of one to three lines" "$fault"
+        { cat -- "$scratch/block" && echo "echo the end of $heading"; } >>"$scratch/blocks"
+    done
+    env scratch="$scratch" SSIGN="$program" timeout "$patience" bash "$scratch/blocks" >"$scratch/out" 2>"$scratch/err"
+    status=$?
+    expect 'README.md: its blocks, one after the other' 0 'SOME TEXT' ''
+    for heading in Verify Live; do
+        holds "README.md, $heading: the verdict" grep -q '^Verdict: All 10 announced messages are present and unchanged' \
+            <(grep -B 1 -x "the end of $heading" "$scratch/out")
+    done
+}
+
+holds 'README.md has at most 900 words' test "$(wc -w <README.md)" -le 900
+in_order
+for page in README.md docs/user/index.md docs/user/*/*.md crates/ssign/README.md; do
+    # pages of a pattern that matches none
+    [[ ! -f $page ]] || examples "$page"
+done
 for folder in crates/*/; do
     holds "${folder}README.md" python3 -B "$root/tests/crate_readmes.py" "$(basename -- "$folder")"
 done
