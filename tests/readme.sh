@@ -83,7 +83,7 @@ in_order() {
         tell "README.md, $heading: a block of one to three lines" "$fault"
         { cat -- "$scratch/block" && echo "echo the end of $heading"; } >>"$scratch/blocks"
     done
-    env scratch="$scratch" SSIGN="$program" timeout "$patience" bash "$scratch/blocks" >"$scratch/out" 2>"$scratch/err"
+    env scratch="$scratch" SSIGN="$program" timeout $((5 * patience)) bash "$scratch/blocks" >"$scratch/out" 2>"$scratch/err"
     status=$?
     expect 'README.md: its blocks, one after the other' 0 'SOME TEXT' ''
     for heading in Verify Live; do
