@@ -204,6 +204,10 @@ expect 'ssign-keys: no Python' 2 '' \
     "ssign-keys: Python 3.9 or newer is missing; on Debian and Ubuntu \`apt-get install python3-cryptography\` installs it"
 tool archive --version
 expect 'archive: no Python' 2 '' "ssign-archive: Python 3.9 or newer is missing; on Debian and Ubuntu \`apt-get install python3\` installs it"
+for it in ssign-keys archive; do
+    # a later Python warns of what an earlier one passes over
+    holds "$it: no Python warns of its first lines" python3 -W error -c 'import sys; compile(open(sys.argv[1]).read(), sys.argv[1], "exec")' "$root/tools/$it"
+done
 cp -- "$scratch/without" "$bin/python3"
 tool archive --version
 expect 'archive: it needs no module' 0 'SOME TEXT' ''
@@ -252,6 +256,7 @@ checks_of() {
     holds "a fresh $release: the verdict" test "$(tail -n 1 -- "$release.out")" = \
         'Verdict: All 10 announced messages are present and unchanged, and each other stored message is a verified block.'
     holds "a fresh $release: in under a minute" test "$took" -lt 60
+    holds "a fresh $release: what is said" test "$(sed -E 's/^(setup: [a-z]*).*/\1/' "$release.err")" = $'setup: missing\nsetup: installed\nsetup: runs'
     holds "a fresh $release: two packages were asked for" test "$(comm -13 "$release.before" "$release.after" | xargs)" = "$pair"
     holds "a fresh $release: services may be started again" test ! -e "$release/usr/sbin/policy-rc.d"
     holds "a fresh $release: a second run installs nothing" test "$(grep -c '^setup: ' "$release.again").$(tail -n 1 -- "$release.again")" = "1.$(tail -n 1 -- "$release.out")"
