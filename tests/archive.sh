@@ -142,7 +142,11 @@ holds 'join: a .gz that breaks off is read up to there' grep -q "octet [1-9][0-9
 harm night-3.log truncate -s -5
 holds 'join: a torn file: status' test "$status" = 1
 holds 'join: a torn file is told' grep -q '^ssign-archive: at harmed/night-3.log octet [0-9]*: torn, the file breaks off in the message that begins there$' err
-holds 'join: the files after it are read' test "$(tail -c 20 out | sha256sum)" = "$(zcat_all gate-1 | tail -c 20 | sha256sum)"
+if command -v xz >found; then
+    holds 'join: the files after it are read' test "$(tail -c 20 out | sha256sum)" = "$(zcat_all gate-1 | tail -c 20 | sha256sum)"
+else
+    skip "what is read after a torn file, because xz is missing"
+fi
 patience=20
 for kind in 'mkfifo log' 'ln -s /dev/zero log' 'ln -s /dev/tty log' 'python3 -c "import socket; socket.socket(socket.AF_UNIX).bind(\"log\")"'; do
     rm -rf odd && mkdir odd && (cd odd && eval "$kind")

@@ -7,6 +7,7 @@ need_program
 export SSIGN=$program
 keys_program=$root/tools/ssign-keys
 need_cryptography
+need_command xz
 # passing files go to a folder that has to be empty at the end of each run
 mkdir -- "$scratch/passing"
 export TMPDIR=$scratch/passing
