@@ -1,6 +1,7 @@
 #!/usr/bin/env bash
-# From a Debian with rsyslog to the first checked night: the six commands of docs/guide.md, each as it stands there, with a
-# rsyslogd that this test starts. And three machines under one trust file, checked as ssign-check@.service does it.
+# From a Debian with rsyslog to the first checked night: the six commands of docs/user/how-to/sign-rotated-logs.md, each as it
+# stands there, with a rsyslogd that this test starts. And three machines under one trust file, checked as
+# ssign-check@.service does it.
 # shellcheck source=tests/lib.sh
 . "$(dirname -- "$0")/lib.sh"
 need_program
@@ -86,8 +87,8 @@ if [[ $(id -u) != 0 ]]; then
     finish
 fi
 mapfile -t commands < <(awk '/^## From rsyslog to the first checked night$/ { inside = 1; next } /^##/ { inside = 0 }
-    inside && /^    / { found = 1; print substr($0, 5); next } inside && found { exit }' "$root/docs/guide.md")
-holds 'the guide has six commands' test "${#commands[@]}" = 6
+    inside && /^    / { found = 1; print substr($0, 5); next } inside && found { exit }' "$root/docs/user/how-to/sign-rotated-logs.md")
+holds 'the page has six commands' test "${#commands[@]}" = 6
 rm -r etc var
 mkdir -p etc/rsyslog.d etc/logrotate.d var/log var/lib usr/share/doc/suhvatek/examples/{rsyslog,logrotate}
 for file in rsyslog/ssign-folder.conf logrotate/ssign-folder; do

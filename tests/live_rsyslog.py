@@ -58,7 +58,7 @@ input(type="imptcp" path="{folder}/relp")
 template(name="Raw" type="string" string="%rawmsg%")
 action(type="omrelp" target="127.0.0.1" port="{relp}" template="Raw")
 """
-# the file of lines of the guide, which is signed each night
+# the file of lines of docs/user/how-to/sign-rotated-logs.md, which is signed each night
 LINES = """
 action(type="omfile" file="{folder}/lines" template="RSYSLOG_SyslogProtocol23Format")
 """

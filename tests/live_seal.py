@@ -357,14 +357,14 @@ def largest():
 
 
 def recipes():
-    """The commands that the guide and the unit give let whoever asks sign under one set of names."""
-    with open(os.path.join(ROOT, "docs", "guide.md"), encoding="utf-8") as file:
-        guide = re.findall(r'^    restrict,command="(ssign-keys seal .*)" ssh-ed25519 ', file.read(), re.MULTILINE)
+    """The commands that the page and the unit give let whoever asks sign under one set of names."""
+    with open(os.path.join(ROOT, "docs", "user", "how-to", "keep-the-key-elsewhere.md"), encoding="utf-8") as file:
+        page = re.findall(r'^    restrict,command="(ssign-keys seal .*)" ssh-ed25519 ', file.read(), re.MULTILINE)
     with open(os.path.join(ROOT, "examples", "systemd", "ssign-seal@.service"), encoding="utf-8") as file:
         unit = re.findall("^ExecStart=(.*)", file.read(), re.MULTILINE)
-    tell("each has one command", differ("counts", (len(guide), len(unit)), (1, 1)))
+    tell("each has one command", differ("counts", (len(page), len(unit)), (1, 1)))
     # what `live` has without options, and %H of systemd
-    for what, text, host in (("the guide", guide[0], "gate"), ("the unit", unit[0], os.uname().nodename)):
+    for what, text, host in (("the page", page[0], "gate"), ("the unit", unit[0], os.uname().nodename)):
         words = shlex.split(text.replace("%H", os.uname().nodename))
         names = words[words.index("--state") + 2:]
         with sealing() as it:

@@ -47,8 +47,8 @@ def config_of(folder, port):
     with open(f"{folder}/live", "w", encoding="ascii") as file:
         file.write(f"#!/bin/sh\nexec {ours} 2>>{folder}/said\n")
     os.chmod(f"{folder}/live", 0o755)
-    # the file of lines of the guide, which is signed each night
-    with open(f"{ROOT}/docs/guide.md", encoding="utf-8") as file:
+    # the file of lines that is signed each night
+    with open(f"{ROOT}/docs/user/how-to/sign-rotated-logs.md", encoding="utf-8") as file:
         lines = "".join(it for it in file if it.startswith(("    template t_line ", "    destination d_lines ")))
     lines = lines.replace("/var/log/signed/messages.log", f"{folder}/lines") + "log { source(s_src); destination(d_lines); };\n"
     return CONFIG.format(port=port) + example.replace(words, f"{folder}/live") + lines

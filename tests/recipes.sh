@@ -1,6 +1,6 @@
 #!/usr/bin/env bash
-# The guide's recipe for each night: logrotate runs its lines as they stand there, another user than root signs what is rotated,
-# and the signed files are checked. And what systemd has against the units of the examples.
+# The recipe of docs/user/how-to/sign-rotated-logs.md for each night: logrotate runs its lines as they stand there, another user
+# than root signs what is rotated, and the signed files are checked. And what systemd has against the units of the examples.
 # shellcheck source=tests/lib.sh
 . "$(dirname -- "$0")/lib.sh"
 need_program
@@ -86,8 +86,8 @@ night() {
 log=$logs/messages.log
 cp "$root/examples/signed/ten-messages.log" "$log"
 chmod 640 "$log"
-sed -n '/^    \/var\/log\/signed\/messages\.log {$/,/^    }$/p' "$root/docs/guide.md" | sed 's/^    //' >rotate
-holds 'the guide has the lines for logrotate' test "$(grep -c '^ *\(daily\|dateext\)$' rotate)" = 2
+sed -n '/^    \/var\/log\/signed\/messages\.log {$/,/^    }$/p' "$root/docs/user/how-to/sign-rotated-logs.md" | sed 's/^    //' >rotate
+holds 'the page has the lines for logrotate' test "$(grep -c '^ *\(daily\|dateext\)$' rotate)" = 2
 holds 'its command names the daemon' grep -qx ' *pkill -HUP -x rsyslogd || true' rotate
 if command -v logrotate >out; then
     # the daemon of this machine is left alone
