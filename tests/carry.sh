@@ -59,7 +59,7 @@ gives 'lines' 0 <(certificate && frame abd) --lines --answers "$answers" \
 gives 'lines, the last one without its LF' 1 <(certificate) --lines --answers "$answers" \
     < <(printf 'abc\n%s\n' "$long" && certificate | tail -c +5 && echo && signature | tail -c +5 && printf '\nabd')
 
-# Two nights, as docs/scale.md has them: a message comes late
+# Two nights, as docs/user/how-to/archives.md has them: a message comes late
 cd -- "$scratch" || exit 1
 : >carried
 cp -- "$answers" answers

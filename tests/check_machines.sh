@@ -1,6 +1,6 @@
 #!/usr/bin/env bash
-# The recipes of docs/scale.md for a check on many machines, word by word: with GNU parallel, with it over SSH, and with Slurm;
-# and that for the log of a collector.
+# The recipes of docs/user/how-to/check-all-nights.md for a check on many machines, word by word: with GNU parallel, with it over
+# SSH, and with Slurm; and that of archives.md there for the log of a collector.
 # What isn't installed is left out, and said. Only the names of folders, machines and the port of SSH are others.
 # shellcheck source=tests/lib.sh
 . "$(dirname -- "$0")/lib.sh"
@@ -12,11 +12,11 @@ files=20
 started=()
 trap 'kill -- "${started[@]}" 2>"$scratch/out"; wait; rm -rf -- "$scratch"' EXIT
 
-# recipe WORD: the block of the page, four blanks before each line, that has this word in it; its names are those of the test.
+# recipe WORD [PAGE]: the block of the page, four blanks before each line, that has this word in it; its names are those of the test.
 recipe() {
     awk -v word="$1" '/^    / { block = block substr($0, 5) "\n"; next }
         { if (index(block, word)) printf "%s", block; block = "" }
-        END { if (index(block, word)) printf "%s", block }' "$root/docs/scale.md" |
+        END { if (index(block, word)) printf "%s", block }' "$root/docs/user/how-to/${2-check-all-nights.md}" |
         sed -e "s:/srv/archive:$scratch/archive:g; s:/etc/ssign/trust:$scratch/trust:g; s:/srv/memory:$scratch/memory:g"
 }
 
@@ -183,7 +183,7 @@ for host in alpha beta; do
     sed "s/ gate / $host /" "$scratch/signed/gate/g-01.log" >"$scratch/$host.log"
     ssign-keys sign --key "$scratch/keys/private-key.pem" --rsid 7 --host "$host" --app signer --lines "$scratch/$host.log"
 done | gzip >"$scratch/cut/collector.log.gz"
-{ recipe 'archive split'; recipe 'parallel --tag'; } | sed "s:\./tools/:$root/tools/:; 1i cd cut" >"$scratch/recipe"
+recipe 'parallel --tag' archives.md | sed "s:ssign-archive:$root/tools/archive:; 1i cd cut" >"$scratch/recipe"
 run_recipe
 holds 'parts of a collector: both are clean' test "$status $(grep -c 'Verdict: All 5 announced messages are present' "$scratch/out")" = '0 2'
 

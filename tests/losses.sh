@@ -1,7 +1,7 @@
 #!/usr/bin/env bash
 # The steps of docs/user/how-to/after-a-loss.md, each command as it stands there: a signer that was put back from a backup, a
 # lost state, a lost key, a stolen one, and a lost memory of checks. Only the folders and the names of machines are others.
-# Commands of systemd and of rsync are stood in for.
+# Scripts stand in for systemctl and scp, and for rsync where that is missing.
 # shellcheck source=tests/lib.sh
 . "$(dirname -- "$0")/lib.sh"
 need_program
@@ -21,8 +21,8 @@ stand_in systemctl <<'C'
 #!/bin/sh
 echo "$@" >>systemctl.log
 C
-# rsync [-rt] [--ignore-existing] FROM/ TO/
-stand_in rsync <<'C'
+# rsync -rt --ignore-existing FROM/ TO/, and rsync -a FROM/ TO/
+command -v rsync >out || stand_in rsync <<'C'
 #!/bin/sh
 for it; do case $it in -*) options="$options $it" ;; *) from=${to-} to=$it ;; esac; done
 case $options in *--ignore-existing*) cp -rn --preserve=timestamps "$from." "$to" ;; *) cp -a "$from." "$to" ;; esac
@@ -45,11 +45,10 @@ block() {
 
 # on MACHINE: the commands of standard input, as one machine runs them. This one has another name, and no --host.
 on() {
-    sed -e "s:archive\:/srv/logs/gate/:archive/srv/logs/gate/:g; s:archive\:/etc/ssign/:archive/etc/ssign/:g; s:backup\:/var/lib:backup:g" \
-        -e "s: /srv/logs : archive/srv/logs :g; s:/etc/ssign:$1/etc/ssign:g; s:/var/lib/ssign:$1/var/lib/ssign:g" \
-        -e "s:/var/log/signed:$1/var/log/signed:g; s:archive/archive/:archive/:g" \
-        -e 's:sign --folder:sign --host gate --quiet 0 --folder:' -e "s:gate/messages.log-20261201.frames:$newest:" \
-        -e "s:2026-11-30T09:$last_own:; s:2026-11-30T08\:00\:00Z:$earlier:" >run.sh
+    sed -e "s|archive:/srv/logs/gate/|archive/srv/logs/gate/|; s|archive:/etc/|archive/ETC/|; s|backup:/var/lib/|backup/|" \
+        -e "s| /srv/logs | archive/srv/logs |; s|/etc/ssign|$1/etc/ssign|g; s|/var/lib/ssign|$1/var/lib/ssign|g; s|ETC|etc|" \
+        -e "s|/var/log/signed|$1/var/log/signed|g; s|sign --folder|sign --host gate --quiet 0 --folder|" \
+        -e "s|gate/messages.log-20261201.frames|$newest|; s|2026-11-30T09:00:00Z|$last_own|; s|2026-11-30T08:00:00Z|$earlier|" >run.sh
     bash run.sh >out 2>err </dev/null
     status=$?
 }
@@ -161,7 +160,7 @@ holds 'live after a restore: nothing is missing' grep -q 'All 3 announced messag
 # ---- another key
 begin
 change='The key is lost, or you change it'
-# change_key: steps 1 to 6, each on its machine
+# change_key: steps 1 to 7, each on its machine
 change_key() {
     on gate < <(for it in 1 2 3; do step "$change" "$it"; done)
     did "$1: another key" 0
@@ -170,12 +169,12 @@ change_key() {
     did "$1: a chain begins" 0
     copy
     newest=$(cd archive/srv/logs && find gate -name 'beat-*.frames')
-    on archive < <(block check= && step "$change" 6)
+    on archive < <(block check= && step "$change" 6 && step "$change" 7)
 }
 change_key 'a lost key'
 did 'a lost key: accepted' 0
 holds 'a lost key: the last line' test "$(tail -n 1 out)" = '3 files of 1 originator: clean, 1 accepted finding'
-on archive < <(step "$change" 7)
+on archive < <(step "$change" 8)
 night 3
 on gate <<<"$sign"
 checked 'a lost key: later nights' 0 '4 files of 1 originator: clean, 1 accepted finding'
