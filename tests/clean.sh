@@ -1,7 +1,7 @@
 #!/usr/bin/env bash
-# What a clean report doesn't say: the logs of that section of docs/guide.md, each with the report on it, worked out by
-# hand. A signer who always gives three octets 0 signs them, and each question about an untouched log is answered with
-# yes: that stands for a checker, because every real checker of these logs would do the same.
+# What a clean report doesn't show: a log for each case of docs/user/explanation/what-a-clean-report-shows.md, with the
+# report on it, worked out by hand. A signer who always gives three octets 0 signs them, and each question about an
+# untouched log is answered with yes. That stands for a checker: every real checker of these logs would do the same.
 #
 # All logs are lines here, so that the message at place N is line N + 1 of its file.
 # shellcheck source=tests/lib.sh
@@ -283,6 +283,21 @@ count gate signer - 7 1 13 3
 count gate signer - 7 1 14 5' < <(places groups 0 1 2 3 4 5 6 10 11 12)
 kept 'a group is taken out' 'count gate signer - 7 3
 count gate signer - 7 1 13 5' < <(places groups 0 1 3 4 7 8 9)
+
+# Each case stands on the page in bold letters, and nothing else does
+cat >"$scratch/cases" <<'END'
+A tail is cut off right after a block.
+A group is taken out, with its messages and blocks; or the last block of a group, with its messages.
+A session is taken out, or all of it but its certificate blocks.
+An older session of the same key stands in place of the present one.
+The messages stand in another order.
+A clock was wrong, or the log was signed later.
+An RSID was used twice, with the same names and key.
+Two keys are trusted, and one originator signs under the other's HOSTNAME.
+Two originators sign the same message, and it is stored once.
+END
+holds 'the page has these cases' diff "$scratch/cases" <(sed -n 's/^\*\*\(.*\)\*\*.*/\1/p' \
+    "$root/docs/user/explanation/what-a-clean-report-shows.md")
 
 # Questions that nobody checked are no answers. Answers that nobody checked let a forged log pass
 message 13 forged1 forged2 | signed stranger gate 9 "$other_key"
