@@ -217,16 +217,16 @@ def main():
             status, plain = review(log, *answered(folder, answers))
             front = " ".join(["session", *names, "1", "joined"]).encode()
             tell(f"names {names[0][:4]}: joined", "" if status == 0 and plain.startswith(front + b"\n") else repr(plain[:400]))
-        # the examples of the guide
-        with open(os.path.join(ROOT, "docs", "guide.md"), "rb") as file:
-            guide = file.read()
+        # the examples of the book
         with open(os.path.join(ROOT, "examples", "four-messages.frames"), "rb") as file:
             log = file.read().replace(b"abc", b"abd", 1)
-        for words in (["--findings"], ["--findings", "--json"], ["--tally"]):
+        for page, words in (("json.md", ["--findings", "--json"]), ("report.md", ["--tally"])):
+            with open(os.path.join(ROOT, "docs", "user", "reference", page), "rb") as file:
+                text = file.read()
             call = " ".join(["./ssign review", *words, "--answers", "examples/four-messages.answers"])
             status, made = review(log, *words, "--answers", os.path.join(ROOT, "examples", "four-messages.answers"))
             shown = b"| %s\n\nprints, with status %d,\n\n    %s\n\n" % (call.encode(), status, b"\n    ".join(made.splitlines()))
-            tell(f"the guide: {' '.join(words)}", "" if shown in guide else f"not in the guide: {shown!r}")
+            tell(f"{page}: {' '.join(words)}", "" if shown in text else f"not in {page}: {shown!r}")
         # the objects by hand
         log, answers = sign(folder, messages[:1], "--host", 'a"b\\c', "--count", "1")
         status, made = review(log, "--json", *answered(folder, answers))

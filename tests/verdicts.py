@@ -102,7 +102,7 @@ def wanted(line: str, stored: List[bytes], log: str, claims: Tuple[Dict[int, Dic
                      {"unproved": int(fields[0]) in claims[1]})
         names.update(file=log, file_place=int(fields[0]), timestamp=stamp(text), octets=len(text),
                      text=escaped(text, 2048 if word == "unlisted" else 60))
-    # docs/guide.md, "Words of a verdict"
+    # docs/user/reference/verdict.md, "All words"
     words = {"hole": "unannounced", "disorder": "out of order", "tail": "missing", "blocks": "missing", "unlisted": "unlisted", "refused": "unverified",
              "spoilt": "spoilt", "damaged": "damaged", "torn": "torn", "gap": "missing" if line.endswith(" lost") else "disputed"}
     names.update({"finding": words[word]} if word in words else {})
