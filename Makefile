@@ -6,7 +6,8 @@
 #   make deb                  makes a Debian package in the folder BUILD
 #   make test                 runs the tests, and skips what lacks a tool; JOBS says how many at a time. ./setup test
 #                             installs the tools before
-#   make pages                makes man/, completions/ and the guide's codes again, from --help and explain
+#   make pages                makes man/, completions/, and the lists of clauses, edits and decisions again
+#   make docs                 builds the book of docs/user as HTML with search, in BUILD/docs; `make install` installs it
 #
 # DESTDIR is a scratch root in front of PREFIX. PYTHON is the interpreter for both tools; without it `env` finds one.
 
@@ -34,4 +35,7 @@ test:
 pages:
 	@tools/make-pages
 
-.PHONY: all install uninstall deb test pages
+docs:
+	@tools/make-docs
+
+.PHONY: all install uninstall deb test pages docs

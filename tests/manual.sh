@@ -16,8 +16,8 @@ if [[ $has_cryptography ]]; then
     for page in "${pages[@]}"; do
         holds "man/$page is what tools/make-pages makes: run make pages" cmp -- "$scratch/made/man/$page" "$root/man/$page"
     done
-    holds 'docs/guide.md has the words of the codes: run make pages' cmp -- "$scratch/made/docs/guide.md" "$root/docs/guide.md"
-    holds 'nothing else is made' test "$(ls "$scratch/made/man")" = "$(printf '%s\n' "${pages[@]}" | sort)"
+    holds 'no other page is made' test "$(ls "$scratch/made/man")" = "$(printf '%s\n' "${pages[@]}" | sort)"
+    holds 'nothing but pages and completions is made' test "$(ls "$scratch/made")" = $'completions\nman'
 else
     # the help of a command loads all of it
     skip "what needs the help of ssign-keys, since the Python module cryptography is missing"

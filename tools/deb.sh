@@ -1,6 +1,7 @@
 #!/usr/bin/env bash
 # Makes a Debian package of what `make install` installs, in the folder BUILD. `make deb` calls it. Where SOURCE_DATE_EPOCH
 # is set, two runs over the same files give the same package; else the date is that of the last commit, or the present.
+# The package has the book as HTML where what tools/make-docs needs is here.
 set -u
 export LC_ALL=C
 
@@ -30,10 +31,21 @@ is_amd64() {
     [[ $(od -An -tx1 -j18 -N2 -- "$1") == ' 3e 00' ]]
 }
 
+# build_book: the book as HTML, in $work/docs. Where a tool for it is missing, the package has no HTML.
+build_book() {
+    SSIGN=$program "$root/tools/make-docs" "$work/docs"
+    case $? in
+    0) ;;
+    2) say 'the package has no HTML' ;;
+    *) refuse "the book can't be built" ;;
+    esac
+}
+
 # stage: installs everything into $tree as Debian wants it.
 stage() {
     local page documents=$tree/usr/share/doc/$package
-    PREFIX=/usr DESTDIR=$tree PYTHON=/usr/bin/python3 "$root/tools/install.sh" install || exit 2
+    build_book
+    PREFIX=/usr DESTDIR=$tree PYTHON=/usr/bin/python3 BUILD=$work "$root/tools/install.sh" install || exit 2
     # dpkg keeps the list of the files
     rm -- "$tree/usr/share/suhvatek/installed" || exit 2
     mv -- "$tree/usr/share/zsh/site-functions" "$tree/usr/share/zsh/vendor-completions" || exit 2

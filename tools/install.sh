@@ -1,6 +1,6 @@
 #!/usr/bin/env bash
-# Installs the programs, or takes them away. `make install` and `make uninstall` call it; PREFIX, DESTDIR and PYTHON are
-# variables of the environment, as in the Makefile.
+# Installs the programs, or takes them away. `make install` and `make uninstall` call it; PREFIX, DESTDIR, PYTHON and BUILD
+# are variables of the environment, as in the Makefile. The book as HTML is that of BUILD/docs, where tools/make-docs built it.
 #     install.sh install      copies each file beside its place, and then renames them all; PREFIX/share/suhvatek/installed
 #                             names what was put there
 #     install.sh uninstall    takes away what that file names, and the folders that were made for it
@@ -16,6 +16,8 @@ destination=${DESTDIR-}
 python=${PYTHON:-/usr/bin/env -S python3}
 recorded=$root/release/ssign-x86_64-linux
 built=$root/crates/ssign/out/ssign
+book=${BUILD:-build}/docs
+[[ $book == /* ]] || book=$root/$book
 manifest=share/suhvatek/installed
 
 say() {
@@ -74,6 +76,29 @@ put_all() {
     done
 }
 
+# put_tree FOLDER TREE PATHS: the files of a tree whose paths are so, each into its place below a folder.
+put_tree() {
+    local file files
+    mapfile -t files < <(find "$2" -regextype posix-extended -type f -regex "$3" -printf '%P\n' | sort)
+    ((${#files[@]})) || refuse "$2 has no files"
+    for file in "${files[@]}"; do
+        put 644 "$2/$file" "$1/$file"
+    done
+}
+
+# is_built: whether the book was built as HTML, and from the pages that are here.
+is_built() {
+    local other
+    if [[ ! -f $book/searchindex.js ]]; then
+        say "the book isn't installed as HTML: make docs builds it"
+        return 1
+    fi
+    other=$(find "$root/docs" "$root"/tools/pages/*.py "$program" -type f -newer "$book/searchindex.js" -print -quit)
+    [[ $other ]] || return 0
+    say "the book isn't installed as HTML: $other is newer, and make docs builds it again"
+    return 1
+}
+
 list_files() {
     modes=() sources=() targets=()
     local documents=share/doc/suhvatek command
@@ -95,7 +120,9 @@ list_files() {
         put 644 "$root/completions/$command.fish" "share/fish/vendor_completions.d/$command.fish"
     done
     put_all "$documents" "$root"/{README,CHANGELOG,SECURITY}.md
-    put_all "$documents/docs" "$root"/docs/*.md
+    put 644 "$root/docs/messages.md" "$documents/docs/messages.md"
+    put_tree "$documents/docs/user" "$root/docs/user" '.*\.(md|schema\.json)'
+    ! is_built || put_tree "$documents/html" "$book" '.*'
     put_all "$documents/docs/dev" "$root"/docs/dev/*.md
     put_all "$documents/docs/dev/decisions" "$root"/docs/dev/decisions/*.md
     put_all "$documents/examples" "$root"/examples/*.{md,frames,answers,counters,log,seals}

@@ -1,4 +1,4 @@
-"""Makes each page, each completion, and the tables of codes."""
+"""Makes each manual page and each completion."""
 from __future__ import annotations
 
 import os
@@ -9,7 +9,6 @@ from .clauses import with_lists
 from .decisions import with_decisions
 from .help import Program, Unreadable, read_program
 from .manual import page
-from .reference import with_codes
 from .shells import bash, fish, zsh
 
 ROOT = os.path.normpath(os.path.join(os.path.dirname(os.path.realpath(__file__)), "..", ".."))
@@ -42,7 +41,6 @@ def make_all() -> Dict[str, str]:
     formats = read("docs", "dev", "FORMATS.md")
     version = programs["ssign"].version
     made = {f"man/{name}": page(name, read("man", f"{name}.md"), programs[of], version, formats) for name, of in PAGES.items()}
-    made["docs/guide.md"] = with_codes(read("docs", "guide.md"), programs["ssign"])
     made["docs/dev/DECISIONS.md"] = with_decisions(read)
     made.update(with_lists(ROOT))
     for name, program in programs.items():
@@ -62,7 +60,7 @@ def main(words: Sequence[str]) -> int:
         for name, text in made.items():
             path = os.path.join(words[0] if words else ROOT, name)
             os.makedirs(os.path.dirname(path), exist_ok=True)
-            with open(path, "w", encoding="utf-8" if name.endswith(".md") else "ascii", newline="\n") as file:
+            with open(path, "w", encoding="ascii", newline="\n") as file:
                 file.write(text)
     except (Unreadable, OSError, UnicodeError) as fault:
         sys.stderr.write(f"make-pages: {fault}\n")

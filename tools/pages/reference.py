@@ -1,29 +1,44 @@
-"""The tables of codes in docs/guide.md: which rows a table has stands there, and the words of each come from the program."""
+"""The page of codes: what `ssign explain --json` and `ssign-keys explain --json` say, a table for each of their tables."""
 from __future__ import annotations
 
 import re
-from typing import Dict
+from typing import Iterator, List, Sequence
 
-from .help import Program, Unreadable
+from ssign_keys.explanations import Explanation
 
-TABLE = re.compile(r"(?<=^\| Code \| In words \|\n\|---\|---\|\n)(?:\|.*\n)+", re.M)
-ROW = re.compile(r"^\| `(.+?)` \|(.*)\|$", re.M)
-# what has backquotes in a row that isn't marked up by hand: options, and what a reader could take for HTML
-MARKED = re.compile(r"(?<![\w-])--[a-z][a-z-]*|<[^>]*>")
+# the heading of each table. One that stands here not has its own name for a heading
+HEADINGS = {
+    "refusals": "Refusals",
+    "words": "Words of the output",
+    "faults": "What is wrong with a message or a block",
+    "unprinted": "Codes that ssign never prints",
+    "keys": "Codes and words of ssign-keys alone",
+}
+BEGINNING = """# Codes and words
+
+`ssign explain CODE` and `ssign-keys explain CODE` print these texts. A code is a letter and a number. A word is one of
+the output.
+"""
+# what Markdown, or HTML in it, would take for a mark
+MARKS = re.compile(r"[\\`*_{}\[\]<>()#+!|&$~^:]")
 
 
-def row(code: str, marked: str, texts: Dict[str, str]) -> str:
-    """The row of a code. It stays as it is where its words are the program's, whatever stands between backquotes."""
-    if code not in texts:
-        raise Unreadable(f"docs/guide.md has a row {code}, which ssign doesn't explain")
-    text = marked if marked.replace("`", "") == texts[code] else MARKED.sub(r"`\g<0>`", texts[code])
-    return f"| `{code}` | {text} |"
+def escaped(text: str) -> str:
+    """A text that Markdown shows as it is."""
+    return MARKS.sub(r"\\\g<0>", text)
 
 
-def with_codes(guide: str, program: Program) -> str:
-    """The guide with the words of the program in its tables."""
-    codes = [it[1] for table in TABLE.finditer(guide) for it in ROW.finditer(table[0])]
-    if codes != list(program.codes):
-        missing = [it for it in program.codes if it not in codes]
-        raise Unreadable(f"docs/guide.md needs a row for each of these codes, in their order: {' '.join(missing or program.codes)}")
-    return TABLE.sub(lambda table: ROW.sub(lambda it: row(it[1], it[2].strip(), program.codes), table[0]), guide)
+def tables(entries: Sequence[Explanation]) -> Iterator[List[Explanation]]:
+    """The entries of each table, in the order in which the tables begin."""
+    for name in dict.fromkeys(it.table for it in entries):
+        yield [it for it in entries if it.table == name]
+
+
+def codes_page(entries: Sequence[Explanation]) -> str:
+    """The page of these entries."""
+    made = [BEGINNING]
+    for table in tables(entries):
+        made += [f"## {HEADINGS.get(table[0].table, table[0].table)}", "", "| Code | In words |", "|---|---|"]
+        made += [f"| `{it.code}` | {escaped(it.text)} |" for it in table]
+        made.append("")
+    return "\n".join(made)
