@@ -1,6 +1,6 @@
 #!/usr/bin/env bash
 # What `ssign-keys verify` reports about what it checked: files, keys, programs, options and times, in JSON, as text and as a
-# page of HTML. verdict_pages.py has second ways to each of these.
+# page of HTML. verdict_pages.py has second ways to each of these. The pages of five logs begin as it is shown here.
 # shellcheck source=tests/lib.sh
 . "$(dirname -- "$0")/lib.sh"
 need_program
@@ -255,6 +255,61 @@ if [[ -z ${SSIGN_SMALL-} ]]; then
     echo "$name: 25,000 messages with 12,500 runs: $small ms; four times as many: $great ms"
     holds 'four times as many findings take at most six times as long' test "$great" -lt $((6 * small))
 fi
+
+# ---- the heads of five pages: the commands, and what the page that they make begins with
+mkdir heads
+ln -s "$root/tools" "$root/examples" heads
+# begins COMMAND.. <HEAD: the page of these commands begins so.
+begins() {
+    local commands page
+    commands=$(printf '%s\n' "$@")
+    page=$(sed -n 's/.* --html \([a-z]*\.html\) .*/\1/p' <<<"$commands")
+    cat >head
+    (cd heads && timeout "$patience" bash -c "$commands") >out 2>err
+    holds "the head of $page: no complaint" test ! -s err
+    holds "the head of $page" diff head <(text head "heads/$page")
+}
+begins 'cp examples/signed/signed.frames clean.frames' \
+    './tools/ssign-keys verify --key examples/signed/public-key.pem --html clean.html clean.frames' <<'S'
+Check of a signed log
+✓ Clean
+All 10 announced messages are present and unchanged, and each other stored message is a verified block.
+S
+# one name was changed
+begins "sed 's/useradd mallory/useradd malcolm/' examples/signed/signed.frames > changed.frames" \
+    './tools/ssign-keys verify --key examples/signed/public-key.pem --html changed.html changed.frames' <<'S'
+Check of a signed log
+✗ Findings
+FINDINGS: of 10 announced messages 9 are present and unchanged, 1 is missing; 1 stored message is unlisted.
+- 1 missing message is likely changed or replaced: number 5, after 2026-01-15T09:15:00Z, before 2026-01-15T09:15:07.311Z.
+S
+# the end was cut off, right after a block
+begins 'head -c 2569 examples/signed/signed.frames > cut.frames' \
+    './tools/ssign-keys verify --key examples/signed/public-key.pem --counters examples/signed/signed.counters --html cut.html cut.frames' <<'S'
+Check of a signed log
+✗ Findings
+FINDINGS: of 8 announced messages 8 are present and unchanged; 2 messages up to the counters are missing; 1 signature block is missing or unverified, so messages may be missing without another line saying so.
+- 2 messages are missing or unlisted, by the counters: numbers 9 to 10 (2 messages), after 2026-01-15T09:20:02Z.
+- 1 signature block is missing or unverified: GBC 2 of gate.example.org signer - 1.
+S
+# the log is whole, and the key is another one
+begins 'mkdir -m 700 other' './tools/ssign-keys make other' \
+    './tools/ssign-keys verify --key other/public-key.pem --html other.html examples/signed/signed.frames' <<'S'
+Check of a signed log
+✗ Nothing is shown
+NOTHING IS SHOWN: the key that you gave isn't the one that its signer states (SHA-256 514fb07028b7896891e4f7952886c80362e7b8dd236ac44cdaba5df04449bd7e), so no block is verified; 10 stored messages are unlisted; 5 blocks are unverified; 1 session isn't joined. Nothing in this log is shown to be authentic. Either you gave the wrong key, or the log isn't as it was signed: anybody can write one that states another key.
+- 10 stored messages are unlisted: places 2 to 5 (4 messages); places 7 to 10 (4 messages); places 12 to 13 (2 messages).
+- 1 session is not joined.
+- 5 blocks are unverified: places 0 to 1 (2 messages); place 6; place 11; and 1 more run.
+S
+# the messages as they were before signing
+begins 'cp examples/signed/ten-messages.log unsigned.log' \
+    './tools/ssign-keys verify --key examples/signed/public-key.pem --html unsigned.html unsigned.log' <<'S'
+Check of a signed log
+✗ Nothing is shown
+NOTHING IS SHOWN: of its 10 messages none is a block; 10 stored messages are unlisted. Nothing in this log is shown to be authentic. Whatever was signed may have been taken out.
+- 10 stored messages are unlisted: places 0 to 9 (10 messages).
+S
 
 # ---- in Chromium, where it is installed: what it says, asks for and draws. It reaches no network.
 browser=$(command -v chromium || command -v chromium-browser || command -v google-chrome)

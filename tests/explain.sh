@@ -1,37 +1,18 @@
 #!/usr/bin/env bash
-# The tables of codes in docs/guide.md are what `ssign explain` lists: the same codes, and of each the same text but for
-# backquotes. It explains codes too that the program never prints, and finds a code in what a refusal prints. With --json it
-# writes objects, which have the same codes and texts. The three nights of one session that docs/guide.md and README.md show
-# print what is shown there, and the pages of five cases begin so.
+# What `ssign explain` and `ssign-keys explain` print: a text for each code and word, also for a code that is never printed or
+# that stands in what a refusal prints. With --json they write objects, which have the same codes and texts.
 # shellcheck source=tests/lib.sh
 . "$(dirname -- "$0")/lib.sh"
 need_program
-guide=$root/docs/guide.md
-
-# the rows of the tables that begin with `| Code |`, up to their first line that is no row
-rows() {
-    awk '/^\| Code \|/ { table = 1; next } !/^\|/ { table = 0 } table && !/^\|-/' "$guide"
-}
-
-told=()
-while IFS= read -r row; do
-    row=${row#'| `'}
-    code=${row%%'`'*}
-    text=${row#*' | '}
-    text=${text%' |'}
-    told+=("$code")
-    run explain "$code" </dev/null
-    expect "what is told of $code" 0 "${text//'`'/}" ''
-done < <(rows)
 
 run explain nothing </dev/null
 [[ $status == 2 && ! -s $scratch/out ]] && said='' || said="    status $status, or something on standard output"
 tell 'an unknown code is refused' "$said"
 codes=$(sed -n 's/^The codes: //p' "$scratch/err")
-[[ $codes == "${told[*]}" ]] && said='' || said="    the program: $codes"$'\n'"    the guide: ${told[*]}"
-tell 'the codes of the guide are those of the program, in their order' "$said"
+read -r -a told <<<"$codes"
+holds 'the codes are listed' test "${#told[@]}" -gt 100
 twice=$(tr ' ' '\n' <<<"$codes" | sort | uniq -d)
-tell 'no code is told of twice' "${twice:+    $twice}"
+tell 'no code is listed twice' "${twice:+    $twice}"
 
 # without_case WORD..: the words in small letters, a line each.
 without_case() {
@@ -43,7 +24,7 @@ unprinted=(F6 F7 F8 O4 O5 V2 M13)
 for code in "${unprinted[@]}"; do
     run explain "$code" </dev/null
     expect "$code is explained" 0 'SOME TEXT' ''
-    holds "what is told of $code is one line" test "$(wc -l <"$scratch/out")" = 1
+    holds "the text of $code is one line" test "$(wc -l <"$scratch/out")" = 1
     holds "$code is said never to be printed" grep -q 'ssign never prints this' "$scratch/out"
     holds "$code is listed nowhere" test -z "$(grep -w -- "$code" <<<"$codes")"
 done
@@ -78,14 +59,14 @@ asked F1 F1 F2 nothing
 asked O6 'ssign: O6 12'
 asked W1 -- W1
 
-# nothing is told of the first word: LAST is what the program says it was asked about
+# the first word is unknown: LAST is the word that the program names
 unknown() {
     local last=$1
     shift
     run explain "$@" </dev/null
     [[ $status == 2 && ! -s $scratch/out ]] && said='' || said="    status $status, or something on standard output"
-    tell "nothing is told of '$*'" "$said"
-    holds "'$last' is what nothing is told of" test "$(head -n 1 "$scratch/err")" = "error: no explanation of \"$last\""
+    tell "'$*' is unknown" "$said"
+    holds "'$last' is named" test "$(head -n 1 "$scratch/err")" = "error: no explanation of \"$last\""
 }
 unknown '' ''
 unknown '' ' '
@@ -170,21 +151,27 @@ For more information, try '"'--help'."
 done
 
 # ---- ssign-keys explain
-# its own codes, as the guide has them but for marks and the case of the first letter
-own=$(sed -nE 's/^- \*\*([LT][1-7])\*\*: (.*)$/\1 \2/p' "$guide" | sed -E -e 's/`//g' -e 's/\[([^]]*)\]\([^)]*\)/\1/g')
+# its own codes
+own=(L1 L2 L3 L4 L5 L6 L7 T1 T2 T3 T4)
 explained() {
     SSIGN=$program timeout "$patience" "$root/tools/ssign-keys" explain "$@" >"$scratch/out" 2>"$scratch/err" </dev/null
     status=$?
 }
 if python3 -c 'import cryptography' 2>"$scratch/err"; then
-    holds 'the guide has eleven codes of ssign-keys' test "$(wc -l <<<"$own")" = 11
-    while read -r code text; do
+    explained --json
+    grep -F '"table":"keys"' "$scratch/out" >"$scratch/own"
+    holds 'ssign-keys has eleven codes of its own' \
+        test "$(sed -E 's/.*"code":"([^"]*)".*/\1/' "$scratch/own" | head -n 11 | tr '\n' ' ')" = "${own[*]} "
+    # `missing blocks` begins with a code, which is what is explained then
+    while IFS= read -r object; do
+        code=$(sed -E 's/.*"code":"([^"]*)".*/\1/' <<<"$object")
         explained "$code"
-        expect "ssign-keys explain $code" 0 "${text^}" ''
+        expect "ssign-keys explain $code" 0 "$(sed -E 's/.*"text":"(.*)"\}$/\1/' <<<"$object")" ''
+        holds "ssign-keys explain $code: a sentence" grep -qxE '[A-Z].*\.' "$scratch/out"
         explained --json "${code,,}"
-        expect "ssign-keys explain --json $code" 0 "{\"line\":\"explanation\",\"table\":\"keys\",\"code\":\"$code\",\"text\":\"${text^}\"}" ''
-    done <<<"$own"
-    for code in F1 gap GAP 'ssign-keys: F1 0' '(F1)' S3 F6; do
+        expect "ssign-keys explain --json $code" 0 "$object" ''
+    done < <(grep -vF '"code":"missing ' "$scratch/own")
+    for code in F1 gap GAP 'missing blocks' 'ssign-keys: F1 0' '(F1)' S3 F6; do
         word=${code#ssign-keys: }
         read -r word _ <<<"${word//[()]/}"
         "$program" explain "$word" >"$scratch/wanted" </dev/null
@@ -193,7 +180,7 @@ if python3 -c 'import cryptography' 2>"$scratch/err"; then
     done
     explained --json
     holds 'ssign-keys explain --json begins as that of ssign' cmp -- <(head -n "$(wc -l <"$scratch/all")" "$scratch/out") "$scratch/all"
-    of_verdict=$(tail -n +"$(($(wc -l <"$scratch/all") + 12))" "$scratch/out" | sed -E 's/.*"code":"([^"]*)".*/\1/' | tr '\n' ,)
+    of_verdict=$(tail -n +"$(($(wc -l <"$scratch/all") + ${#own[@]} + 1))" "$scratch/out" | sed -E 's/.*"code":"([^"]*)".*/\1/' | tr '\n' ,)
     holds 'its own codes follow, and the words of a verdict that no report has' \
         test "$of_verdict" = 'gone,changed or replaced,missing up to the counters,unproved,missing blocks,out of order,manifest,not joined,SHA-1,strangers,'
     explained out of order
@@ -204,54 +191,6 @@ if python3 -c 'import cryptography' 2>"$scratch/err"; then
     expect 'ssign-keys explain nothing' 2 '' 'ssign-keys: no explanation of "nothing": `ssign-keys explain --json` has all codes'
     explained
     expect 'ssign-keys explain' 2 '' 'ssign-keys: name a code or a word of the output, as in `ssign-keys explain S3`'
-fi
-
-# ---- three nights of one session
-# nights FILE: runs the block of commands with `--new-session`, in a folder of its own, and compares its last line with the block
-# that follows.
-nights() {
-    local commands shown
-    commands=$(awk '/^    /{ block = block substr($0, 5) "\n"; next } block ~ /--new-session/ { printf "%s", block; exit } { block = "" }' "$1")
-    shown=$(awk '/^    /{ if (wanted) { print substr($0, 5); exit } if (/--new-session/) seen = 1; next }
-        seen && /^The last line is, with status 0,$/ { wanted = 1 }' "$1")
-    holds "${1##*/} shows three nights" test "$(grep -c 'ssign-keys sign' <<<"$commands")" = 3 -a -n "$shown"
-    mkdir -- "$scratch/nights"
-    ln -s -- "$root/tools" "$root/examples" "$scratch/nights"
-    mkdir -m 700 -- "$scratch/nights/keys"
-    "$root/tools/ssign-keys" make "$scratch/nights/keys"
-    (cd -- "$scratch/nights" && HOME=$scratch/nights SSIGN=$program timeout "$patience" bash -e -c "$commands") >"$scratch/out" 2>"$scratch/err"
-    status=$?
-    holds "${1##*/}: the status of three nights" test "$status" = 0
-    holds "${1##*/}: the last line of three nights" test "$(tail -n 1 "$scratch/out")" = "$shown"
-    holds "${1##*/}: no complaint" test ! -s "$scratch/err"
-    rm -r -- "$scratch/nights"
-}
-# ---- the heads of the pages of five cases
-# blocks: the blocks of the section, each in a file of its own: commands, what the page of these begins with, commands and so on
-blocks() {
-    awk -v folder="$1" '/^#/ { inside = ($0 == "### The head of the page in five cases") }
-        inside && /^    / { if (!block) { block = 1; count++ } print substr($0, 5) >(folder "/block-" count); next } { block = 0 }' "$guide"
-}
-heads() {
-    local commands number page
-    mkdir -- "$scratch/heads"
-    ln -s -- "$root/tools" "$root/examples" "$scratch/heads"
-    blocks "$scratch/heads"
-    holds 'five cases are shown' test "$(find "$scratch/heads" -name 'block-*' | wc -l)" = 10
-    for number in 1 3 5 7 9; do
-        commands=$(<"$scratch/heads/block-$number")
-        page=$(sed -n 's/.* --html \([a-z]*\.html\) .*/\1/p' <<<"$commands")
-        (cd -- "$scratch/heads" && SSIGN=$program timeout "$patience" bash -c "$commands") >"$scratch/out" 2>"$scratch/err"
-        holds "$page: no complaint" test ! -s "$scratch/err"
-        holds "$page begins as it is shown" diff "$scratch/heads/block-$((number + 1))" <(python3 -B "$root/tests/page_text.py" head "$scratch/heads/$page")
-    done
-}
-if python3 -c 'import cryptography' 2>"$scratch/err"; then
-    nights "$root/README.md"
-    nights "$guide"
-    heads
-else
-    echo "$name: skipped the three nights of one session and the pages, since the Python module cryptography is missing"
 fi
 
 finish
