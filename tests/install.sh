@@ -53,11 +53,12 @@ sum_of() {
     line=$(sha256sum <"$1") && printf '%s' "${line%% *}"
 }
 
-# ---- into a scratch root
+# ---- into a scratch root, first without the book as HTML
+export BUILD=$scratch/book
 umask 077
 made install DESTDIR="$scratch/one"
 umask 022
-succeeds 'make install'
+succeeds 'make install' "the book isn't installed as HTML: make docs builds it"
 usr=one/usr/local
 if grep -q 'the program is the recorded one' err; then
     holds 'the recorded program is installed' cmp "$usr/bin/ssign" "$root/release/ssign-x86_64-linux"
@@ -75,7 +76,7 @@ wanted=(bin/ssign bin/ssign-keys share/suhvatek/ssign-keys share/suhvatek/ssign_
     share/bash-completion/completions/ssign share/bash-completion/completions/ssign-keys
     share/zsh/site-functions/_ssign share/zsh/site-functions/_ssign-keys
     share/fish/vendor_completions.d/ssign.fish share/fish/vendor_completions.d/ssign-keys.fish
-    share/doc/suhvatek/{README,SECURITY,CHANGELOG}.md share/doc/suhvatek/docs/{guide,messages,scale}.md
+    share/doc/suhvatek/{README,SECURITY,CHANGELOG}.md share/doc/suhvatek/docs/{messages,user/index}.md
     share/doc/suhvatek/docs/dev/{FORMATS,PROOFS,DECISIONS,decisions/formats}.md
     share/doc/suhvatek/examples/signed/signed.frames share/doc/suhvatek/examples/systemd/ssign-sign.service
     share/doc/suhvatek/examples/rsyslog/ssign-live.conf
@@ -88,6 +89,12 @@ done
 for file in "$root"/tools/ssign_{keys,keys/chain,keys/check,archive}/*.py; do
     holds "${file#"$root"/tools/} is installed" cmp "$file" "$usr/share/suhvatek/${file#"$root"/tools/}"
 done
+while IFS= read -r file; do
+    holds "$file is installed" cmp "$root/docs/user/$file" "$usr/share/doc/suhvatek/docs/user/$file"
+done < <(cd -- "$root/docs/user" && find . \( -name '*.md' -o -name '*.schema.json' \) -printf '%P\n')
+holds 'of the folder docs nothing else is installed' \
+    test "$(cd -- "$usr/share/doc/suhvatek/docs" && ls -d -- * | tr '\n' ' ')" = 'dev messages.md user '
+holds 'nor a book as HTML that was not built' test ! -e "$usr/share/doc/suhvatek/html"
 for unit in check alarm stamp; do
     holds "ssign-$unit@.service starts what is installed" test "$(grep -c '^ExecStart=/usr/local/bin/ssign-keys ' "$usr/lib/systemd/system/ssign-$unit@.service")" = 1
 done
@@ -118,6 +125,26 @@ succeeds 'make uninstall'
 holds 'nothing is left' test ! -e one
 made uninstall DESTDIR="$scratch/one"
 fails 'nothing can be taken away twice' 'nothing is installed below'
+
+# ---- the book as HTML: where it was built of these pages
+html=$scratch/one/usr/local/share/doc/suhvatek/html
+mkdir -p book/docs/_static
+echo '<title>book</title>' | tee book/docs/index.html >book/docs/searchindex.js
+echo style >'book/docs/_static/a b.css'
+touch -d tomorrow book/docs/searchindex.js
+made install DESTDIR="$scratch/one"
+succeeds 'make install with the book as HTML'
+holds 'it is installed' diff -r book/docs "$html"
+touch -d 2020-01-01 book/docs/searchindex.js
+made install DESTDIR="$scratch/one"
+succeeds 'make install with a book that is older than its pages' "is newer, and make docs builds it again"
+holds 'an older book is not installed, and the one before is gone' test -z "$(find "$html" -type f 2>err)"
+touch -d tomorrow book/docs/searchindex.js
+made install DESTDIR="$scratch/one"
+made uninstall DESTDIR="$scratch/one"
+succeeds 'make uninstall with the book as HTML'
+holds 'nothing of it is left' test ! -e one
+rm -r book
 
 # ---- a folder with a blank, in which other things stand
 mkdir -p 'a root/opt/my & tools/bin' 'a root/opt/my & tools/share/man/man1'
@@ -319,6 +346,11 @@ umask 077
 made deb BUILD="$scratch/first" SOURCE_DATE_EPOCH=1700000000
 umask 022
 succeeds 'make deb'
+has_html=1
+if grep -qx 'deb: the package has no HTML' err; then
+    has_html=
+    echo "$name: skipped the book in the package: $(sed -n 's/^make-docs: //p' err)"
+fi
 package=$(echo first/*.deb)
 version=$("$program" --version </dev/null)
 holds 'its name' test "$package" = "first/suhvatek_${version#ssign }-1_amd64.deb"
@@ -374,7 +406,12 @@ debian() {
     echo share/lintian/overrides/suhvatek
     [[ ! -e unpacked/usr/share/doc/suhvatek/copyright ]] || echo share/doc/suhvatek/copyright
 }
-holds 'it has what make install puts there' diff <(debian <<<"$installed" | sort) <(cd unpacked/usr && find . ! -type d -printf '%P\n' | sort)
+holds 'it has what make install puts there' diff <(debian <<<"$installed" | sort) \
+    <(cd unpacked/usr && find . ! -type d ! -path './share/doc/suhvatek/html/*' -printf '%P\n' | sort)
+if [[ $has_html ]]; then
+    holds 'it has the book as HTML' test -s unpacked/usr/share/doc/suhvatek/html/reference/codes.html
+    holds 'no link of that is dead' python3 -B "$root/tests/book.py" links unpacked/usr/share/doc/suhvatek/html
+fi
 holds 'the interpreter is that of Debian' test "$(head -n 1 unpacked/usr/share/suhvatek/ssign-keys)" = '#!/usr/bin/python3 -B'
 holds 'its changelog' grep -qx "suhvatek (${version#ssign }-1) unstable; urgency=medium" <(gzip -dc unpacked/usr/share/doc/suhvatek/changelog.Debian.gz)
 # lintian isn't told to be silent on anything else, and each line has its reason above it

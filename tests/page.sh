@@ -264,10 +264,10 @@ begins() {
     local commands page
     commands=$(printf '%s\n' "$@")
     page=$(sed -n 's/.* --html \([a-z]*\.html\) .*/\1/p' <<<"$commands")
-    cat >head
+    cat >shown
     (cd heads && timeout "$patience" bash -c "$commands") >out 2>err
     holds "the head of $page: no complaint" test ! -s err
-    holds "the head of $page" diff head <(text head "heads/$page")
+    holds "the head of $page" diff shown <(text head "heads/$page")
 }
 begins 'cp examples/signed/signed.frames clean.frames' \
     './tools/ssign-keys verify --key examples/signed/public-key.pem --html clean.html clean.frames' <<'S'

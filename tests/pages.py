@@ -11,6 +11,7 @@ Prints what is wrong with the pages in FOLDER, a line each. The status is then 1
     words      words that the glossary gives up stand nowhere but in its own column of them
     crates     each crate of crates.txt has its README, and is named in docs/dev/ARCHITECTURE.md
     laws       docs/dev/LAWS.md links the name of each law to the file that states it, and names no other law
+    budgets    README.md and the book have no more words than they may, and no long sentence or cell of a table
     promises   each promise of SECURITY.md names a script of tests/, and what it quotes after one stands in it or its helpers
 
 Blocks of code, which are indented by four spaces, are no text. A heading is found by the name that GitHub gives it.
@@ -40,6 +41,17 @@ ANY_NAME = re.compile(r"\b(?:NAME|FUNCTION|COMMAND)\b|(?<=/)[a-z](?=[./])")
 MADE = re.compile(r"crates/\w+/out/")
 # folders of a crate, in which a path may begin
 PARTS = ("", "src/", "specs/", "proofs/")
+# how many words these pages may have together, as `wc -w` counts them, and how many each of them
+BUDGETS = ((("README.md",), 900, 900), (("docs/user/*.md", "docs/user/*/*.md"), 12000, 1200))
+# how many words a sentence or a cell may have in these pages
+LONGEST = 25
+# what begins an item of a list, a heading or a quotation, and marks words
+BEGINS_ITEM = re.compile(r"^ {0,3}(?:[-*+]|\d+[.)]|#+|>) +")
+STRESS = re.compile(r"\*\*|(?<!\w)[*_](?=\S)|(?<=[^\s*_])[*_](?!\w)")
+# points that end no sentence
+SHORTENED = re.compile(r"\b(?:e\.g|i\.e|etc|cf|vs|p|pp|Mr|Ms|Dr)\.")
+# the end of a sentence: a mark, and what closes after it. Two points stand for what is left out.
+SENTENCE_END = re.compile(r"(?<=[.?!])(?<!\.\.)[)\"'\u201d]*\s+")
 LAWS = "docs/dev/LAWS.md"
 LAW_FILES = ("crates/*/src/laws.rt", "crates/*/src/laws/*.rt")
 # a law, with the lines of its contract, and a statement that these name by a definition
@@ -77,6 +89,35 @@ def anchors_in(path):
             name = re.sub(r"[^\w\- ]", "", words.lower()).replace(" ", "-")
             seen[name] += 1
             yield name if seen[name] == 1 else f"{name}-{seen[name] - 1}"
+
+
+def plain(text):
+    """A text with a word for each span of code, without marks and the targets of links."""
+    text = re.sub(r"``.+?``|`[^`]*`", "code", text)
+    text = re.sub(r"!?\[([^\]]*)\]\([^()\s]*\)", r"\1", text)
+    return SHORTENED.sub(lambda it: it.group(0).replace(".", ""), STRESS.sub("", text))
+
+
+def words_in(text):
+    """The words of a text: what has a letter or a digit."""
+    return [it for it in text.split() if re.search(r"\w", it)]
+
+
+def sentences_in(path):
+    """The sentences and the cells of a page, each with the number of its first line, its words, and what it is. An item, a
+    heading and an empty line end one; a line goes on in the next one."""
+    text, first = "", 0
+    for number, line in [*prose(path), (0, "")]:
+        is_row = line.startswith("|")
+        if is_row or not line.strip() or BEGINS_ITEM.match(line):
+            yield from ((first, words_in(it), "sentence") for it in SENTENCE_END.split(plain(text)))
+            text = ""
+        if is_row:
+            cells = re.split(r"(?<!\\)\|", re.sub(r"`[^`]*`", "code", line).strip().strip("|"))
+            yield from ((number, words_in(plain(it)), "cell") for it in cells)
+        elif line.strip():
+            first = first if text else number
+            text += (" " if text else "") + BEGINS_ITEM.sub("", line, count=1)
 
 
 def headings_in(path):
@@ -188,6 +229,19 @@ class Repository:
                 if check not in self.checks_of(script):
                     yield f"{SECURITY}:{number}: {script} has no \"{check}\""
 
+    def budgets(self):
+        for patterns, most, most_each in BUDGETS:
+            pages = sorted(it for pattern in patterns for it in self.names(pattern))
+            counts = {it: len(text_of(self.at(it)).split()) for it in pages}
+            if sum(counts.values()) > most:
+                yield f"{' and '.join(patterns)}: {sum(counts.values())} words, and at most {most}"
+            for page, count in counts.items():
+                if count > most_each and len(pages) > 1:
+                    yield f"{page}: {count} words, and at most {most_each}"
+                for number, words, what in sentences_in(self.at(page)):
+                    if len(words) > LONGEST:
+                        yield f"{page}:{number}: a {what} of {len(words)} words: {' '.join(words[:6])} .."
+
     def checks_of(self, script):
         """The text of a script, and of the helpers that it and they name."""
         texts, left, seen = [], [os.path.basename(script)], set()
@@ -218,7 +272,8 @@ def main(kind, folder):
         print("    there are no pages or no crates")
         return 1
     found = {"links": repository.links, "paths": repository.paths, "rows": repository.rows, "words": repository.words,
-             "crates": repository.crates_named, "laws": repository.laws, "promises": repository.promises}[kind]
+             "crates": repository.crates_named, "laws": repository.laws, "promises": repository.promises,
+             "budgets": repository.budgets}[kind]
     faults = list(found())
     for fault in faults:
         print(f"    {fault}")

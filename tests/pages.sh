@@ -1,7 +1,7 @@
 #!/usr/bin/env bash
 # The pages, against what is there: links and headings, paths of the repository, the rows of tests/README.md, words that
-# the glossary gives up, the crates, the laws of docs/dev/LAWS.md, and the tests that SECURITY.md names. pages.py does it. Each
-# kind of fault is planted in a small repository, and found.
+# the glossary gives up, the crates, the laws of docs/dev/LAWS.md, the tests that SECURITY.md names, and how long README.md
+# and the book are. pages.py does it. Each kind of fault is planted in a small repository, and found.
 # shellcheck source=tests/lib.sh disable=SC2016
 . "$(dirname -- "$0")/lib.sh"
 
@@ -10,16 +10,28 @@ faults() {
     local found
     found=$(python3 -B "$root/tests/pages.py" "$1" "$2" 2>&1) || printf '%s\n' "${found:-    pages.py failed}"
 }
-kinds=(links paths rows words crates laws promises)
+kinds=(links paths rows words crates laws promises budgets)
 for kind in "${kinds[@]}"; do
     tell "the $kind of the pages" "$(faults "$kind" "$root")"
 done
+
+# sentence N: N words.
+sentence() {
+    seq -s ' ' -f 'a%.0f' "$1"
+}
+# text SENTENCES: as many sentences of ten words, a line each.
+text() {
+    local number
+    for ((number = 0; number < $1; number++)); do
+        echo "$(sentence 10)."
+    done
+}
 
 # begin: a small repository, in which nothing is wrong
 small=$scratch/small
 begin() {
     rm -rf -- "$small"
-    mkdir -p -- "$small"/{docs/dev,tests,crates/ss_a/{src/laws,specs}}
+    mkdir -p -- "$small"/{docs/{dev,user/how-to},tests,crates/ss_a/{src/laws,specs}}
     cat >"$small/README.md" <<'S'
 # It `is` so
 
@@ -37,6 +49,16 @@ S
     printf '# Each crate\nss_a: itoa\n' >"$small/crates.txt"
     printf '# Security\n\n- no promise\n\n## What is promised\n\n- It is so. Tests: `tests/a.sh`, `tests/a.sh` "it is", `tests/a.sh` "so".\n' \
         >"$small/SECURITY.md"
+    # each sentence and each cell is as long as it may be
+    {
+        printf '# Book\n\n%s. %s.\n(%s.) %s:\n\n    %s %s\n\n' "$(sentence 25)" "$(sentence 20)" "$(sentence 24)" "$(sentence 25)" \
+            "$(sentence 25)" "$(sentence 25)"
+        printf -- '- **%s.** `a b. c d` e.g. %s\n  %s\n- %s\n1. %s\n\n' "$(sentence 25)" "$(sentence 11)" "$(sentence 12)" \
+            "$(sentence 25)" "$(sentence 25)"
+        printf '| a | b |\n|---|---|\n| %s `a | b c` | %s |\n' "$(sentence 24)" "$(sentence 25)"
+    } >"$small/docs/user/index.md"
+    printf '# Page\n\n[%s](../../dev/glossary.md) %s? It is\n[the](../index.md) end.\n' "$(sentence 12)" "$(sentence 13)" \
+        >"$small/docs/user/how-to/page.md"
     echo "tell 'it is' # b.py" >"$small/tests/a.sh"
     echo "tell('so')" >"$small/tests/b.py"
     touch -- "$small/crates/ss_a/src/one.rt" "$small/crates/ss_a/specs/Ones.antt"
@@ -124,6 +146,30 @@ sed -i 's/ # b.py//' "$small/tests/a.sh"
 finds 'a check of another script'\''s helper' promises 'SECURITY.md:7: tests/a.sh has no "so"'
 echo '- It is. Tests: `tests/none.sh`.' >>"$small/SECURITY.md"
 finds 'a test that is not there' paths 'SECURITY.md:8: there is no tests/none.sh'
+text 90 >>"$small/README.md"
+holds 'a README that is too long' grep -qE '^    README\.md: 9[0-9]{2} words, and at most 900$' <(faults budgets "$small")
+begin
+text 120 >"$small/docs/user/how-to/long.md"
+tell 'a page of 1,200 words' "$(faults budgets "$small")"
+echo one >>"$small/docs/user/how-to/long.md"
+finds 'a page of the book that is too long' budgets 'docs/user/how-to/long.md: 1201 words, and at most 1200'
+for number in {1..10}; do text 119 >"$small/docs/user/how-to/$number.md"; done
+holds 'a book that is too long' grep -qE '^    docs/user/\*\.md and docs/user/\*/\*\.md: 12[0-9]{3} words, and at most 12000$' <(faults budgets "$small")
+begin
+for long in "$(sentence 26)." "- $(sentence 26)" "**$(sentence 26)**" "$(sentence 13)"$'\n'"$(sentence 13)" "## $(sentence 26)" \
+    "$(sentence 24) \`a\` \`b c\`." "$(sentence 13) [$(sentence 12)](../index.md) a26?" "$(sentence 25) etc. a26"; do
+    printf '\n%s\n' "$long" >>"$small/docs/user/how-to/page.md"
+    holds "a long sentence: ${long//[[:space:]]/ }" grep -qE '^    docs/user/how-to/page\.md:6: a sentence of 2[67] words: a1 a2 a3 ' \
+        <(faults budgets "$small")
+    begin
+done
+printf '\n| a | %s |\n' "$(sentence 26)" >>"$small/docs/user/how-to/page.md"
+finds 'a long cell' budgets 'docs/user/how-to/page.md:6: a cell of 26 words: a1 a2 a3 a4 a5 a6 ..'
+printf '\n%s\n' "$(sentence 26)" >>"$small/README.md"
+finds 'a long sentence of the README' budgets 'README.md:9: a sentence of 26 words: a1 a2 a3 a4 a5 a6 ..'
+printf '\n%s\n' "$(sentence 26)" >>"$small/docs/guide.md"
+tell 'a long sentence of another page' "$(faults budgets "$small")"
+begin
 echo '# nothing' >"$small/crates.txt"
 finds 'no crates at all' crates 'there are no pages or no crates'
 finish
