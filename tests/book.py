@@ -3,7 +3,7 @@
 
     book.py run PAGE FOLDER     the commands of a page, one block after the other in FOLDER, print what the page shows
     book.py index BOOK          the first page of BOOK links to each other one
-    book.py links HTML          each link of the HTML leads to a file and to a place in it, and nothing outside is asked for
+    book.py links HTML          each link of the HTML leads to a place that is there, and nothing outside is asked for
     book.py contents HTML BOOK  each page of BOOK stands once in the table of contents, in the order of the parts
     book.py search HTML BOOK    the index of the search has words of each page
     book.py codes PAGE          the page of codes has the objects of standard input, which `explain --json` wrote
@@ -92,8 +92,8 @@ def run(page: str, folder: str) -> Iterator[str]:
                      for at, step in enumerate(steps))
     subprocess.run(["bash", "-c", script], cwd=folder, check=False, timeout=300)
     for at, step in enumerate(steps):
-        yield from step.faults(*(read(f"{folder}/{kind}.{at}").rstrip("\n") if kind == "status" else read(f"{folder}/{kind}.{at}")
-                                 for kind in ("status", "out", "err")))
+        status, output, complaint = (read(f"{folder}/{kind}.{at}") for kind in ("status", "out", "err"))
+        yield from step.faults(status.strip(), output, complaint)
 
 
 def index(book: str) -> Iterator[str]:

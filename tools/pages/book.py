@@ -1,6 +1,6 @@
 """Builds the book of docs/user as HTML, by Sphinx and its reader of Markdown. The search of Sphinx needs no network.
 
-A link that leads out of the book leads to a copy of that file in the folder `files`, so that no link of the HTML is dead
+A link that leads out of the book leads to a copy of that file in the folder `files`. So no link of the HTML is dead,
 wherever it is put. A folder has no copy, and its path stands in the text.
 """
 from __future__ import annotations
@@ -100,7 +100,8 @@ class Source:
             pages = [it for it in [*self.pages, CODES] if it.startswith(f"{part}/")]
             pages.sort(key=lambda it: (order.get(it, len(order) + len(index)), it))
             if pages:
-                made += f"\n```{{toctree}}\n:hidden:\n:caption: {name}\n\n" + "".join(f"{it[:-3]}\n" for it in pages) + "```\n"
+                listed = "".join(f"{it[:-3]}\n" for it in pages)
+                made += f"\n```{{toctree}}\n:hidden:\n:caption: {name}\n\n{listed}```\n"
         return made
 
     def line(self, page: str, line: str) -> str:

@@ -1,4 +1,4 @@
-"""The page of codes: what `ssign explain --json` and `ssign-keys explain --json` say, a table for each of their tables."""
+"""The page of codes, from `ssign explain --json` and `ssign-keys explain --json`: a table for each of their tables."""
 from __future__ import annotations
 
 import re
@@ -6,7 +6,7 @@ from typing import Iterator, List, Sequence
 
 from ssign_keys.explanations import Explanation
 
-# the heading of each table. One that stands here not has its own name for a heading
+# the heading of each table; any other table has its name for one
 HEADINGS = {
     "refusals": "Refusals",
     "words": "Words of the output",
