@@ -157,6 +157,8 @@ def links(html: str) -> Iterator[str]:
                     yield f"{path} asks for {link}"
                 continue
             target, _, name = link.partition("#")
+            # newer versions of Sphinx name a version of each script
+            target = target.partition("?")[0]
             target = os.path.normpath(os.path.join(os.path.dirname(path), target)) if target else path
             if target.startswith("..") or not os.path.isfile(f"{html}/{target}"):
                 yield f"{path}: {link} leads to nothing"

@@ -417,7 +417,7 @@ holds 'its changelog' grep -qx "suhvatek (${version#ssign }-1) unstable; urgency
 # lintian isn't told to be silent on anything else, and each line has its reason above it
 overrides=unpacked/usr/share/lintian/overrides/suhvatek
 holds 'what lintian is told' test "$(sed -n 's/^suhvatek: \([a-z-]*\) .*/\1/p' "$overrides")" = \
-    $'unstripped-binary-or-object\ninitial-upload-closes-no-bugs'
+    $'unstripped-binary-or-object\ninitial-upload-closes-no-bugs'"${has_html:+$'\n'embedded-javascript-library}"
 holds 'with a reason for each' test "$(awk '!/^#/ && last !~ /^#/ { print "none" } { last = $0 }' "$overrides")" = ''
 holds 'the program is that of make install, with its symbols' test "$(sum_of unpacked/usr/bin/ssign)" = "$program_sum"
 # all that lintian may say

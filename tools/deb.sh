@@ -79,6 +79,11 @@ $package: unstripped-binary-or-object [usr/bin/ssign]
 # to Debian. There is no bug that asks for it.
 $package: initial-upload-closes-no-bugs [usr/share/doc/$package/changelog.Debian.gz:1]
 OVERRIDES
+    [[ ! -d $tree/usr/share/doc/$package/html ]] || cat <<OVERRIDES
+# The book is read and searched from its folder, by the scripts of the Sphinx
+# that built it. Those of another version may not fit, and nothing else is needed.
+$package: embedded-javascript-library * [usr/share/doc/$package/html/_static/*]
+OVERRIDES
 }
 
 write_changelog() {
