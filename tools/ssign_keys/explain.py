@@ -15,7 +15,7 @@ from .programs import add_program_argument, find_program
 from .texts import quoted
 
 OWN = "keys"
-# what the guide says about each, without its backquotes
+# what each means
 CODES = {
     "L1": "Another process uses the state or the output. Stop it first; each signer needs folders of its own.",
     "L2": "Neither file of the state is whole: put both files back as they were, or give --new-session. Or the folder is one of "
