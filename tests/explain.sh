@@ -162,16 +162,21 @@ if python3 -c 'import cryptography' 2>"$scratch/err"; then
     grep -F '"table":"keys"' "$scratch/out" >"$scratch/own"
     holds 'ssign-keys has eleven codes of its own' \
         test "$(sed -E 's/.*"code":"([^"]*)".*/\1/' "$scratch/own" | head -n 11 | tr '\n' ' ')" = "${own[*]} "
-    # `missing blocks` begins with a code, which is what is explained then
     while IFS= read -r object; do
         code=$(sed -E 's/.*"code":"([^"]*)".*/\1/' <<<"$object")
+        text=$(sed -E 's/.*"text":"(.*)"\}$/\1/' <<<"$object")
+        holds "ssign-keys explain $code: a sentence" grep -qxE '[A-Z].*\.' <<<"$text"
+        # `missing blocks` begins with a code, which is explained before it
+        if [[ $code == missing\ * ]]; then
+            text=$("$program" explain missing </dev/null)$'\n'$text
+            object=$(grep -F '"code":"missing"' "$scratch/all")$'\n'$object
+        fi
         explained "$code"
-        expect "ssign-keys explain $code" 0 "$(sed -E 's/.*"text":"(.*)"\}$/\1/' <<<"$object")" ''
-        holds "ssign-keys explain $code: a sentence" grep -qxE '[A-Z].*\.' "$scratch/out"
+        expect "ssign-keys explain $code" 0 "$text" ''
         explained --json "${code,,}"
         expect "ssign-keys explain --json $code" 0 "$object" ''
-    done < <(grep -vF '"code":"missing ' "$scratch/own")
-    for code in F1 gap GAP 'missing blocks' 'ssign-keys: F1 0' '(F1)' S3 F6; do
+    done <"$scratch/own"
+    for code in F1 gap GAP 'ssign-keys: F1 0' '(F1)' S3 F6; do
         word=${code#ssign-keys: }
         read -r word _ <<<"${word//[()]/}"
         "$program" explain "$word" >"$scratch/wanted" </dev/null
