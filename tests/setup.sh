@@ -159,6 +159,7 @@ holds 'no-install: apt-get is not asked' test ! -e "$scratch/asked"
 setup test -j 2 verify keys
 expect 'test: it installs, and runs the tests' 0 $'all.sh -j 2 verify keys\n5 passed, 0 failed, 2 skipped' 'SOME TEXT'
 holds 'test: what is installed' grep -qxF "setup: installed $all in N seconds" "$scratch/err"
+holds 'test: what starts later' grep -qx 'setup: no service was started; sshd and rsyslogd start with the next boot, .*' "$scratch/err"
 FAKE_ID=1000 ASKS=1 setup test
 expect 'test: where it may not install, it goes on' 0 "apt-get install --no-install-recommends ${all#"$pair "}"$'\nall.sh \n5 passed, 0 failed, 2 skipped' 'SOME TEXT'
 # shellcheck disable=SC2016
