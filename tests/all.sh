@@ -13,7 +13,7 @@ cd -- "$root" || exit 1
 # a script that takes longer hangs, even beside much other work
 longest=1800
 # the scripts that take longest begin first, so that none of them is alone at the end
-first=(verify live large refusals kept archive salvage_keys keys salvage stamps disputes answers-out linear strangers mistakes ssign sealing deliveries
+first=(setup verify live large refusals kept archive salvage_keys keys salvage stamps disputes answers-out linear strangers mistakes ssign sealing deliveries
     verdict reports bombs manifest)
 
 usage() {
