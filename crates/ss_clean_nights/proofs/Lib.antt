@@ -3,7 +3,8 @@ pub mod NightParts
 pub mod Runs
 pub mod Outside
 pub mod NightOutside
-pub mod CleanNights
+pub mod StandIns
+pub mod CompleteNights
 pub mod Missing
 pub mod OwnCounters
 pub mod OneHash

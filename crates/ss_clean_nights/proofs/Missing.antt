@@ -15,18 +15,22 @@ use Rattle.ss_review.specs.declared.counted.shortfall.GroupTail.{GroupTail}
 use Rattle.ss_review.specs.declared.counted.shortfall.Shortfall.{Shortfall}
 use Rattle.ss_review.specs.declared.counted.shortfall.LogShortfalls.{LogShortfalls}
 use Rattle.ss_review.specs.declared.report.session_report.SessionReport.{SessionReport}
+use Rattle.ss_review.specs.keep.BlockMessage.{BlockMessage}
 use Rattle.ss_review.specs.keep.Notes.{notes}
 use Rattle.ss_review.specs.keep.Contents.{blocks}
 use Rattle.ss_review.specs.sessions.Sessions.{same_session, sessions}
 use Rattle.ss_review.specs.sessions.Verified.{Answers}
 use Rattle.ss_review.specs.report.Report.{report}
 use Rattle.ss_review.specs.Laws.{AnnouncedAreTold, ReportsAreInOrder}
+use Rattle.ss_review.specs.pinned.Stands.{PinnedReportsAreOfLogs}
 use Rattle.ss_review.specs.counted.Counted.{gbcs, next_after, missing}
 use Rattle.ss_review.specs.counted.CountedLaws.{IsCounted, AreMissing, CountedAreVerified, CountedOrMissing, NextGbcFollows, NextNumbersFollow}
 use Rattle.ss_review.specs.counted.Kept.{counters_of, kept_sessions, kept_gbc, number_in, groups_in, number_behind, tails_in, end_of_blocks}
 use Rattle.ss_review.specs.counted.KeptLaws.{shortfalls_of, IsToldOf}
 use Rattle.ss_between.specs.Between.{has_counter}
+use Rattle.ss_clean_nights.specs.Night.{log_blocks, log_report}
 use Rattle.ss_clean_nights.specs.MissingLaws.{IsWholeTail, IsEndOfBlocks, AreWholeRuns, IsReportedOnce, MissingIsReportedOnce}
+use Rattle.ss_clean_nights.proofs.StandIns.{StandsIn, stand_in}
 use Rattle.ss_octets.proofs.Members.{Has, has-map, has_from_contains, from_has-filter}
 use Rattle.ss_between.proofs.Below.{from_tails, own_tails_rise, of_tail}
 use Rattle.ss_review.proofs.of_counters.Fates.{announced_below, behind_is}
@@ -55,7 +59,7 @@ module _ (announced : AnnouncedAreTold) (order : ReportsAreInOrder) (numbers : N
       let o = told_is says log cs verified f told in
       subst (λ (ts : List GroupTail). IsStrictlySortedBy group_cmp (map of_tail ts)) (sym (tails_are f o)) (own_tails_rise (counters_of cs f.session) o.groups)
 
-  whole_tail : (f : Shortfall) → IsToldOf all f → (t : GroupTail) → Has f.tails t → IsWholeTail says log cs f.session t
+  whole_tail : (f : Shortfall) → IsToldOf all f → (t : GroupTail) → Has f.tails t → IsWholeTail says (blocks (notes log)) cs f.session t
   unfolding tails_in
   whole_tail f told t h =
       let o = told_is says log cs verified f told in
@@ -80,7 +84,7 @@ module _ (announced : AnnouncedAreTold) (order : ReportsAreInOrder) (numbers : N
 
   -- ---- signature blocks
 
-  end_is : (s : Session) → IsEndOfBlocks says log cs s (end_of_blocks (counters_of cs s) (its_gbcs s))
+  end_is : (s : Session) → IsEndOfBlocks says (blocks (notes log)) cs s (end_of_blocks (counters_of cs s) (its_gbcs s))
   end_is s =
       let next = follows says log s in
       let end = end_of_blocks (counters_of cs s) (its_gbcs s) in
@@ -96,7 +100,7 @@ module _ (announced : AnnouncedAreTold) (order : ReportsAreInOrder) (numbers : N
         ];
       }
 
-  whole_runs : (f : Shortfall) → IsToldOf all f → AreWholeRuns says log cs f
+  whole_runs : (f : Shortfall) → IsToldOf all f → AreWholeRuns says (blocks (notes log)) cs f
   whole_runs f told =
       let o = told_is says log cs verified f told in
       let s = f.session in
@@ -152,7 +156,7 @@ module _ (announced : AnnouncedAreTold) (order : ReportsAreInOrder) (numbers : N
       let t = there says log cs s (subst (Has (kept_sessions cs)) (sym (is_same s w.0 w.2)) w.1) in
       (t.shortfall, t.told, t.session_is)
 
-  pub reported_once : IsReportedOnce says log cs all
+  pub reported_once : IsReportedOnce says (blocks (notes log)) (report says log).sessions cs all
   reported_once = record {
     known = known_sessions;
     absent = subst (IsStrictlySortedBy session_cmp) (sym absent_sessions) absents_rise;
@@ -160,9 +164,14 @@ module _ (announced : AnnouncedAreTold) (order : ReportsAreInOrder) (numbers : N
     have_no_report = no_report;
     each_has_one = each_has_one;
     one_tail = one_tail;
-    tails = λ f told. All-from_recursion (IsWholeTail says log cs f.session) f.tails (all_below (IsWholeTail says log cs f.session) f.tails (whole_tail f told));
+    tails = λ f told. All-from_recursion (IsWholeTail says (blocks (notes log)) cs f.session) f.tails (all_below (IsWholeTail says (blocks (notes log)) cs f.session) f.tails (whole_tail f told));
     runs = whole_runs;
   }
 
-pub missing_once : AnnouncedAreTold → ReportsAreInOrder → NextNumbersFollow → CountedAreVerified → CountedOrMissing → NextGbcFollows → MissingIsReportedOnce
-missing_once announced order numbers verified or_missing follows says log cs = reported_once announced order numbers verified or_missing follows says log cs
+pub missing_once : AnnouncedAreTold → ReportsAreInOrder → NextNumbersFollow → CountedAreVerified → CountedOrMissing → NextGbcFollows → PinnedReportsAreOfLogs → MissingIsReportedOnce
+missing_once announced order numbers verified or_missing follows of_logs known says log cs =
+    let w : (other : List (List ℕ)) × StandsIn known says log other = stand_in of_logs known says log in
+    let other = reported_once announced order numbers verified or_missing follows says w.0 cs in
+    let by_blocks = subst (λ (bs : List BlockMessage). IsReportedOnce says bs (report says w.0).sessions cs (shortfalls_of says w.0 cs)) w.1.blocks_are other in
+    let by_sessions = subst (λ (ss : List SessionReport). IsReportedOnce says (log_blocks known says log) ss cs (shortfalls_of says w.0 cs)) w.1.sessions by_blocks in
+    subst (IsReportedOnce says (log_blocks known says log) (log_report known says log).sessions cs) (w.1.missing cs) by_sessions

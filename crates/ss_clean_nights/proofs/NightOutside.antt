@@ -16,13 +16,15 @@ use Rattle.ss_review.specs.announced.Announced.{Key}
 use Rattle.ss_review.specs.report.Meaning.{IsTold}
 use Rattle.ss_review.specs.report.Report.{report}
 use Rattle.ss_review.specs.Laws.{ReportsAreInOrder}
+use Rattle.ss_review.specs.pinned.Stands.{PinnedReportsAreOfLogs}
 use Rattle.ss_between.specs.Between.{number_at, SessionBetween, NumberRun, session_between, early_of, beyond_of, beyond}
-use Rattle.ss_clean_nights.specs.Night.{NightReport, night_report, IsEarly, IsBeyond}
+use Rattle.ss_clean_nights.specs.Night.{NightReport, log_report, night_by, night_report, IsEarly, IsBeyond}
 use Rattle.ss_clean_nights.specs.NightLaws.{AreRuns, IsPastTheEnd, OutsideAreThese, NumbersOutsideAreThese}
 use Rattle.ss_octets.proofs.Members.{Has, has-map, has_from_contains, contains_from_has, from_has-map}
 use Rattle.ss_review.proofs.of_counters.Shortfalls.{report_of_session, reports_are}
 use Rattle.ss_review.proofs.of_lists.Rising.{all_below}
 use Rattle.ss_clean_nights.proofs.NightParts.{stored, own, sessions_are}
+use Rattle.ss_clean_nights.proofs.StandIns.{StandsIn, stand_in, same_night, told_by}
 use Rattle.ss_clean_nights.proofs.Runs.{no_pairs}
 use Rattle.ss_clean_nights.proofs.Outside.{EntriesRise, HasNumber, outside, IsInRuns, Passes, from_runs, to_runs, are_runs}
 
@@ -249,5 +251,16 @@ module _ (order : ReportsAreInOrder) (says : Answers) (log : List (List ℕ)) (f
     beyond_runs = beyond_runs;
   }
 
-pub numbers_outside : ReportsAreInOrder → NumbersOutsideAreThese
-numbers_outside order says log first second = outside_are order says log first second
+outside_by : (first : List Counter) (second : Option (List Counter)) (r q : Report) → r.sessions ≡ q.sessions → (n : NightReport) → OutsideAreThese first second r n → OutsideAreThese first second q n
+outside_by first second r q same n o = record {
+  early = λ k. (λ e. (let w = (o.early k).0 e in (told_by r q same k w.0, w.1)), λ t. (o.early k).1 (told_by q r (sym same) k t.0, t.1));
+  beyond = λ k. (λ e. (let w = (o.beyond k).0 e in (told_by r q same k w.0, w.1)), λ t. (o.beyond k).1 (told_by q r (sym same) k t.0, t.1));
+  early_runs = o.early_runs;
+  beyond_runs = o.beyond_runs;
+}
+
+pub numbers_outside : ReportsAreInOrder → PinnedReportsAreOfLogs → NumbersOutsideAreThese
+numbers_outside order of_logs known says log first second =
+    let w : (other : List (List ℕ)) × StandsIn known says log other = stand_in of_logs known says log in
+    outside_by first second (report says w.0) (log_report known says log) w.1.sessions (night_by known says log first second)
+    (subst (OutsideAreThese first second (report says w.0)) (same_night known says log w.0 w.1 first second) (outside_are order says w.0 first second))

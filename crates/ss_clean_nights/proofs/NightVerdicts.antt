@@ -35,7 +35,7 @@ use Rattle.ss_report.specs.lines.Between.{early_line, beyond_line, night_lines, 
 use Rattle.ss_report.specs.Verdict.{is_clean_ending, is_clean_tail, verdict_of}
 use Rattle.ss_report.specs.declared.log.ending.Damage.{Damage}
 use Rattle.ss_report.specs.declared.log.ending.Ending.{Ending}
-use Rattle.ss_clean_nights.specs.Night.{NightReport, end_counters, night_report}
+use Rattle.ss_clean_nights.specs.Night.{NightReport, end_counters, night_by, night_report}
 use Rattle.ss_clean_nights.specs.CleanLaws.{IsCleanNight}
 use Rattle.ss_clean_nights.specs.VerdictLaws.{VerdictsAreOfNights}
 use Rattle.ss_octets.proofs.Members.{Has, has-map, contains_from_has, from_has-map}
@@ -262,7 +262,7 @@ module _ (says : Answers) (log : List (List ℕ)) (first : List Counter) (second
   settled = (list_all is_settled_night n.sessions && is_none n.absent) && is_settled_rest r ending
 
   verdict_is : between_verdict says first second log ending ≡ verdict_of settled
-  unfolding night_report
+  unfolding night_by
   verdict_is =
       ap (λ cs. verdict_of (list_all is_settled (lines_between itemized (Some first) second r (shortfalls_of says log cs) ending))) (same_end second)
       ∙ ap verdict_of (settled_all first second r (shortfalls_of says log (end_counters second)) ending)

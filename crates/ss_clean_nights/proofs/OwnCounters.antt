@@ -1,6 +1,6 @@
 -- What a log announces is below the counters that it gives, so a clean log is a clean night up to them.
 use Rattle.std.proofs.Common.{◌≡◌, inl, inr, ℕ, ◌<◌, ◌≤◌, Bool, true, false, ◌&&◌, List, [], ◌∷◌, map, fold, refl, sym, ap, ◌∙◌, subst, arith}
-use Rattle.std.specs.Prelude.{max, if◌then◌else◌, Some, Result, Ok, Err, All}
+use Rattle.std.specs.Prelude.{max, if◌then◌else◌, Some, None, Result, Ok, Err, All}
 use Rattle.std.specs.List.{zip, list_all, filter_map}
 use Rattle.std.proofs.lemmas.Bool.{and_parts, and_from}
 use Rattle.std.proofs.lemmas.List.Elements.{All-contains, All-from_recursion}
@@ -237,7 +237,7 @@ pub clean_logs : AnnouncedAreTold → NumbersOutsideAreThese → AnnouncedAreBel
 clean_logs told outside below says log clean nothing =
     let end = log_counters says log in
     let n = night_report says log [] (Some end) in
-    let out = outside says log [] (Some end) in
+    let out = outside None says log [] (Some end) in
     record {
       clean = subst (λ r. is_clean r ≡ true) (sym (report_is says log [] (Some end))) (report_clean [] (report says log) clean);
       nothing_missing = subst NothingIsMissing (sym (shortfalls_are says log [] (Some end))) (nothing_left [] (shortfalls_of says log end) nothing);

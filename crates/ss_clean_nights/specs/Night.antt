@@ -1,5 +1,5 @@
 -- What a review reports of one night: of a log, between two counters of each group.
-use Rattle.std.specs.Prelude.{◌≡◌, ◌≤◌, ℕ, Option, List, [], map, Contains, unwrap_or}
+use Rattle.std.specs.Prelude.{◌≡◌, ◌≤◌, ℕ, Option, None, List, [], map, Contains, unwrap_or}
 use Rattle.std.specs.List.{zip}
 use Rattle.ss_review.specs.declared.counted.counter.Counter.{Counter}
 use Rattle.ss_review.specs.declared.counted.shortfall.Shortfall.{Shortfall}
@@ -7,8 +7,11 @@ use Rattle.ss_review.specs.declared.counted.shortfall.LogShortfalls.{LogShortfal
 use Rattle.ss_review.specs.declared.report.report.Report.{Report}
 use Rattle.ss_review.specs.sessions.Verified.{Answers}
 use Rattle.ss_review.specs.announced.Announced.{Key}
-use Rattle.ss_review.specs.report.Report.{report}
-use Rattle.ss_review.specs.counted.KeptLaws.{shortfalls_of}
+use Rattle.ss_review.specs.keep.BlockMessage.{BlockMessage}
+use Rattle.ss_review.specs.keep.Contents.{blocks, contents}
+use Rattle.ss_review.specs.keep.Notes.{notes}
+use Rattle.ss_review.specs.pinned.Pinned.{blocks_by, report_by}
+use Rattle.ss_review.specs.pinned.Stands.{shortfalls_by}
 use Rattle.ss_between.specs.Between.{SessionBetween, NumberRun, session_between, absent_left}
 
 -- each session of the log, and those that have a second counter and no block in the log
@@ -20,13 +23,27 @@ pub record NightReport : Type 0 where
 abbrev pub end_counters : Option (List Counter) → List Counter
 end_counters second = unwrap_or second []
 
-unfoldable pub night_report : Answers → List (List ℕ) → List Counter → Option (List Counter) → NightReport
-night_report says log first second =
-    let all = shortfalls_of says log (end_counters second) in
+-- the report of a log by the payloads that are known beforehand, or without any
+abbrev pub log_report : Option (List (List ℕ)) → Answers → List (List ℕ) → Report
+log_report known says log = report_by known says (contents (notes log))
+
+-- the blocks that such a report rests on
+abbrev pub log_blocks : Option (List (List ℕ)) → Answers → List (List ℕ) → List BlockMessage
+log_blocks known says log = blocks_by known says (blocks (notes log))
+
+-- what is reported of one night
+unfoldable pub night_by :
+    Option (List (List ℕ)) → Answers → List (List ℕ) → List Counter → Option (List Counter) → NightReport
+night_by known says log first second =
+    let all = shortfalls_by known says log (end_counters second) in
     record {
-      sessions = map (session_between first second) (zip (report says log).sessions all.known);
+      sessions = map (session_between first second)
+          (zip (log_report known says log).sessions all.known);
       absent = absent_left first all.absent;
     }
+
+abbrev pub night_report : Answers → List (List ℕ) → List Counter → Option (List Counter) → NightReport
+night_report says log first second = night_by None says log first second
 
 -- a report, of whose sessions only what is left stays
 abbrev pub report_left : Report → NightReport → Report

@@ -1,4 +1,4 @@
--- What holds of every log, any first counters and any second ones.
+-- What holds of every log, any first counters and any second ones, and any payloads that are known beforehand.
 use Rattle.std.specs.Prelude.{◌≡◌, ◌↔◌, ◌⊎◌, ℕ, ◌+◌, ◌<◌, ◌≤◌, true, Option, Some, None, List, [], map, All, Contains}
 use Rattle.std.specs.List.{AllPairs}
 use Rattle.ss_block.specs.declared.session.Session.{Session}
@@ -7,18 +7,16 @@ use Rattle.ss_review.specs.declared.counted.shortfall.Shortfall.{Shortfall}
 use Rattle.ss_review.specs.declared.counted.shortfall.LogShortfalls.{LogShortfalls}
 use Rattle.ss_review.specs.declared.report.entry.Why.{Why}
 use Rattle.ss_review.specs.declared.report.report.Report.{Report}
-use Rattle.ss_review.specs.keep.Notes.{notes}
-use Rattle.ss_review.specs.keep.Contents.{blocks}
 use Rattle.ss_review.specs.sessions.Verified.{Answers}
 use Rattle.ss_review.specs.announced.Announced.{Key}
 use Rattle.ss_review.specs.report.Meaning.{IsListed, IsGap, IsTold}
-use Rattle.ss_review.specs.report.Report.{report}
+use Rattle.ss_review.specs.pinned.Stands.{shortfalls_by}
 use Rattle.ss_review.specs.counted.CountedLaws.{IsCounted}
 use Rattle.ss_review.specs.counted.Kept.{kept_number, kept_gbc}
-use Rattle.ss_review.specs.counted.KeptLaws.{shortfalls_of, IsInHole, IsInTail, IsInRunOf, Fate, HasFate}
+use Rattle.ss_review.specs.counted.KeptLaws.{IsInHole, IsInTail, IsInRunOf, Fate, HasFate}
 use Rattle.ss_between.specs.Between.{number_at, gbc_at, has_counter, shortfall_left, NumberRun}
-use Rattle.ss_clean_nights.specs.Night.{NightReport, end_counters, night_report, report_left, shortfalls_left}
-use Rattle.ss_clean_nights.specs.Night.{IsEarly, IsBeyond}
+use Rattle.ss_clean_nights.specs.Night.{NightReport, end_counters, log_blocks, log_report, night_by}
+use Rattle.ss_clean_nights.specs.Night.{report_left, shortfalls_left, IsEarly, IsBeyond}
 
 -- ---- what is left out
 
@@ -47,9 +45,10 @@ pub record LeavesOutTheRest (first : List Counter) (r : Report) (all : LogShortf
 
 abbrev pub NightsLeaveOutTheRest : Type 0
 NightsLeaveOutTheRest =
-    (says : Answers) (log : List (List ℕ)) (first : List Counter) (second : Option (List Counter))
-    → LeavesOutTheRest first (report says log) (shortfalls_of says log (end_counters second))
-    (night_report says log first second)
+    (known : Option (List (List ℕ))) (says : Answers) (log : List (List ℕ)) (first : List Counter)
+    (second : Option (List Counter))
+    → LeavesOutTheRest first (log_report known says log) (shortfalls_by known says log (end_counters second))
+    (night_by known says log first second)
 
 -- ---- each number and each GBC of the night
 
@@ -57,22 +56,24 @@ NightsLeaveOutTheRest =
 -- a tail of what is left.
 abbrev pub NumbersOfNightsAreTold : Type 0
 NumbersOfNightsAreTold =
-    (says : Answers) (log : List (List ℕ)) (first : List Counter) (second : Option (List Counter)) (k : Key)
+    (known : Option (List (List ℕ))) (says : Answers) (log : List (List ℕ)) (first : List Counter)
+    (second : Option (List Counter)) (k : Key)
     → number_at first k.session k.group ≤ k.number → k.number < kept_number (end_counters second) k.session k.group
-    → let night = night_report says log first second in
-    (fate : Fate) × HasFate (report_left (report says log) night) (shortfalls_left night) k fate
-    × ((other : Fate) → HasFate (report_left (report says log) night) (shortfalls_left night) k other → other ≡ fate)
+    → let night = night_by known says log first second in
+    let left = report_left (log_report known says log) night in
+    (fate : Fate) × HasFate left (shortfalls_left night) k fate
+    × ((other : Fate) → HasFate left (shortfalls_left night) k other → other ≡ fate)
 
 -- A GBC from its session's first counter on and below the second one is that of a verified signature block, or in a run
 -- of what is left. None is both.
 abbrev pub BlocksOfNightsAreTold : Type 0
 BlocksOfNightsAreTold =
-    (says : Answers) (log : List (List ℕ)) (first : List Counter) (second : Option (List Counter)) (s : Session)
-    (gbc : ℕ)
-    → let night = night_report says log first second in
+    (known : Option (List (List ℕ))) (says : Answers) (log : List (List ℕ)) (first : List Counter)
+    (second : Option (List Counter)) (s : Session) (gbc : ℕ)
+    → let night = night_by known says log first second in
     (gbc_at first s ≤ gbc → gbc < kept_gbc (end_counters second) s
-    → IsCounted says (blocks (notes log)) s gbc ⊎ IsInRunOf (shortfalls_left night) s gbc)
-    × (IsCounted says (blocks (notes log)) s gbc → ¬ IsInRunOf (shortfalls_left night) s gbc)
+    → IsCounted says (log_blocks known says log) s gbc ⊎ IsInRunOf (shortfalls_left night) s gbc)
+    × (IsCounted says (log_blocks known says log) s gbc → ¬ IsInRunOf (shortfalls_left night) s gbc)
 
 -- ---- what is announced outside of the night
 
@@ -97,5 +98,6 @@ pub record OutsideAreThese (first : List Counter) (second : Option (List Counter
 
 abbrev pub NumbersOutsideAreThese : Type 0
 NumbersOutsideAreThese =
-    (says : Answers) (log : List (List ℕ)) (first : List Counter) (second : Option (List Counter))
-    → OutsideAreThese first second (report says log) (night_report says log first second)
+    (known : Option (List (List ℕ))) (says : Answers) (log : List (List ℕ)) (first : List Counter)
+    (second : Option (List Counter))
+    → OutsideAreThese first second (log_report known says log) (night_by known says log first second)

@@ -1,5 +1,7 @@
-//! Laws on one night, from the first counter of each group on and below the second one.
-ghost use Rattle.ss_clean_nights.specs.CleanLaws.{CleanNightsAddUp, CleanNightsHaveAll, NumbersHaveOneHash};
+//! Laws on one night, from the first counter of each group on and below the second one, and by any payloads that are known
+//! beforehand.
+ghost use Rattle.ss_clean_nights.specs.CompleteLaws.{CleanNightsAreComplete, CompleteNightsAddUp, CompleteNightsHaveAll};
+ghost use Rattle.ss_clean_nights.specs.CompleteLaws.{NumbersHaveOneHash};
 ghost use Rattle.ss_clean_nights.specs.MissingLaws.{MissingIsReportedOnce};
 ghost use Rattle.ss_clean_nights.specs.NightLaws.{BlocksOfNightsAreTold, NightsLeaveOutTheRest, NumbersOfNightsAreTold};
 ghost use Rattle.ss_clean_nights.specs.NightLaws.{NumbersOutsideAreThese};
@@ -14,6 +16,7 @@ use ss_review::laws::counted::{
     counted_are_verified, counted_or_missing, next_gbc_follows, next_numbers_follow,
 };
 use ss_review::laws::kept::{every_block_is_told, every_number_is_told};
+use ss_review::laws::pinned::pinned_reports_are_of_logs;
 use ss_review::laws::reports::{announced_are_told, listed_are_assigned, reports_are_in_order};
 
 /// A night leaves out what lies below the first counters, and nothing else: each session stays with its state and its
@@ -22,7 +25,9 @@ use ss_review::laws::reports::{announced_are_told, listed_are_assigned, reports_
 /// of it is missing.
 pub fn nights_leave_out_the_rest()
     ensures { NightsLeaveOutTheRest }
-{}
+{
+    pinned_reports_are_of_logs();
+}
 
 /// Each number from its group's first counter on and below the second one is exactly one of listed, a gap, in a hole
 /// and in a tail.
@@ -30,6 +35,7 @@ pub fn numbers_of_nights_are_told()
     ensures { NumbersOfNightsAreTold }
 {
     every_number_is_told();
+    pinned_reports_are_of_logs();
     nights_leave_out_the_rest();
 }
 
@@ -39,6 +45,7 @@ pub fn blocks_of_nights_are_told()
     ensures { BlocksOfNightsAreTold }
 {
     every_block_is_told();
+    pinned_reports_are_of_logs();
     nights_leave_out_the_rest();
 }
 
@@ -48,37 +55,47 @@ pub fn numbers_outside_are_these()
     ensures { NumbersOutsideAreThese }
 {
     reports_are_in_order();
+    pinned_reports_are_of_logs();
 }
 
-/// If a night is clean, the log lists each number from its group's first counter on and below the second one, and
-/// announces no other number. It has a verified signature block with each GBC of that kind.
-pub fn clean_nights_have_all()
-    ensures { CleanNightsHaveAll }
+/// A clean night is complete.
+pub fn clean_nights_are_complete()
+    ensures { CleanNightsAreComplete }
+{}
+
+/// If a night is complete, the log lists each number from its group's first counter on and below the second one, and
+/// announces no other number. It has a verified signature block with each GBC of that kind. It holds whatever else is in
+/// the log.
+pub fn complete_nights_have_all()
+    ensures { CompleteNightsHaveAll }
 {
     announced_are_told();
     nights_leave_out_the_rest();
     numbers_of_nights_are_told();
     blocks_of_nights_are_told();
     numbers_outside_are_these();
+    pinned_reports_are_of_logs();
 }
 
-/// If nights follow one another, no counter of a group falls and each night is clean, each number from the counters at
-/// which the first one begins and below those at which the last one ends is listed in exactly one of their logs. Each GBC
-/// of that kind has a verified signature block in one.
-pub fn clean_nights_add_up()
-    ensures { CleanNightsAddUp }
+/// If nights follow one another, no counter of a group falls and each night is complete, each number from the counters
+/// at which the first one begins and below those at which the last one ends is listed in exactly one of their logs. Each
+/// GBC of that kind has a verified signature block in one.
+pub fn complete_nights_add_up()
+    ensures { CompleteNightsAddUp }
 {
     announced_are_told();
-    clean_nights_have_all();
+    pinned_reports_are_of_logs();
+    complete_nights_have_all();
 }
 
-/// If nights follow one another, no counter of a group falls and each night is clean, a number that is announced is
+/// If nights follow one another, no counter of a group falls and each night is complete, a number that is announced is
 /// announced in one of their logs alone, and with one hash.
 pub fn numbers_have_one_hash()
     ensures { NumbersHaveOneHash }
 {
     listed_are_assigned();
-    clean_nights_have_all();
+    pinned_reports_are_of_logs();
+    complete_nights_have_all();
 }
 
 /// What is missing up to counters is reported once. A group has one tail at most, from the number after the last
@@ -93,6 +110,7 @@ pub fn missing_is_reported_once()
     counted_are_verified();
     counted_or_missing();
     next_gbc_follows();
+    pinned_reports_are_of_logs();
 }
 
 /// Small reports between counters, computed: what is left of holes, tails and runs, which sessions are left out, and

@@ -1,7 +1,7 @@
 -- A log that has all of a night and nothing else, by membership: a clean night's log is one, and if it begins with no
 -- counter, it is clean and nothing is missing of it.
 use Rattle.std.proofs.Common.{◌≡◌, inl, inr, ℕ, ◌+◌, ◌<◌, ◌≤◌, true, false, ◌&&◌, List, [], ◌∷◌, map, refl, sym, ap, ◌∙◌, subst, arith}
-use Rattle.std.specs.Prelude.{Some, Contains}
+use Rattle.std.specs.Prelude.{Some, None, Contains}
 use Rattle.std.specs.List.{list_all}
 use Rattle.std.proofs.lemmas.Bool.{and_parts, cases_Bool, cases_lt}
 use Rattle.std.proofs.lemmas.List.Elements.{All-contains, All-from_recursion}
@@ -35,7 +35,9 @@ use Rattle.ss_review.specs.counted.KeptLaws.{shortfalls_of, IsToldOf, IsInRunOf,
 use Rattle.ss_between.specs.Between.{number_at, gbc_at, has_counter, shortfall_left, SessionBetween, NumberRun}
 use Rattle.ss_clean_nights.specs.Night.{NightReport, night_report, report_left, shortfalls_left, IsEarly, IsBeyond}
 use Rattle.ss_clean_nights.specs.NightLaws.{LeavesOutTheRest, NightsLeaveOutTheRest, AreRuns, OutsideAreThese, NumbersOutsideAreThese}
-use Rattle.ss_clean_nights.specs.CleanLaws.{IsCleanNight, HasAllOfTheNight, CleanNightsHaveAll, DontFall}
+use Rattle.ss_clean_nights.specs.CleanLaws.{IsCleanNight, DontFall}
+use Rattle.ss_clean_nights.specs.CompleteLaws.{HasAllOfTheNight, CompleteNightsHaveAll}
+use Rattle.ss_clean_nights.proofs.CompleteNights.{clean_is_complete}
 use Rattle.ss_clean_nights.specs.MissingLaws.{IsWholeTail, AreWholeRuns, IsReportedOnce, MissingIsReportedOnce}
 use Rattle.ss_octets.proofs.Members.{Has, has_from_contains, contains_from_has, has-map, from_has-map}
 use Rattle.ss_review.proofs.of_lists.Rising.{all_below}
@@ -116,22 +118,22 @@ module _ (one : OneReport) (says : Answers) (log : List (List ℕ)) where
 
   -- ---- a clean night's log is full
 
-  module _ (told : AnnouncedAreTold) (assigned_are : ListedAreAssigned) (have : CleanNightsHaveAll) (leave : NightsLeaveOutTheRest) (missing : MissingIsReportedOnce)
+  module _ (told : AnnouncedAreTold) (assigned_are : ListedAreAssigned) (have : CompleteNightsHaveAll) (leave : NightsLeaveOutTheRest) (missing : MissingIsReportedOnce)
       (first end : List Counter) (clean : IsCleanNight (report says log) (night_report says log first (Some end))) (rise : DontFall first end) where
     abbrev night : NightReport
     night = night_report says log first (Some end)
 
-    all_of : HasAllOfTheNight says log first (Some end)
-    all_of = have says log first (Some end) clean
+    all_of : HasAllOfTheNight None says log first (Some end)
+    all_of = have None says log first (Some end) (clean_is_complete (report says log) night clean)
 
     nothing_else : HasNothingElse (report_left (report says log) night)
     nothing_else = clean_parts (report_left (report says log) night) clean.clean
 
-    once : IsReportedOnce says log end (shortfalls_of says log end)
-    once = missing says log end
+    once : IsReportedOnce says stored (report says log).sessions end (shortfalls_of says log end)
+    once = missing None says log end
 
     left : LeavesOutTheRest first (report says log) (shortfalls_of says log end) night
-    left = leave says log first (Some end)
+    left = leave None says log first (Some end)
 
     its_verified : (b : BlockMessage) → Has stored b → is_verified says stored b ≡ true
     its_verified b h =
@@ -273,10 +275,10 @@ module _ (one : OneReport) (says : Answers) (log : List (List ℕ)) where
     abbrev short : LogShortfalls
     short = shortfalls_of says log end
 
-    told_once : IsReportedOnce says log end short
-    told_once = missing says log end
+    told_once : IsReportedOnce says stored (report says log).sessions end short
+    told_once = missing None says log end
 
-    no_tail : (s : Session) (t : GroupTail) → IsWholeTail says log end s t → ⊥
+    no_tail : (s : Session) (t : GroupTail) → IsWholeTail says stored end s t → ⊥
     no_tail s t w =
         let some = w.some_number in
         let up = w.up_to in
@@ -303,7 +305,7 @@ module _ (one : OneReport) (says : Answers) (log : List (List ℕ)) where
               subst (IsCounted says stored s) same c)
         ]
 
-    no_missing_run : (f : Shortfall) → AreWholeRuns says log end f → (r : MissingRun) → Has f.blocks r → ⊥
+    no_missing_run : (f : Shortfall) → AreWholeRuns says stored end f → (r : MissingRun) → Has f.blocks r → ⊥
     no_missing_run f w r h =
         let c = contains_from_has f.blocks r h in
         let some = All-contains (λ (x : MissingRun). x.first ≤ x.last) f.blocks r w.missing.some_value c in
@@ -331,7 +333,7 @@ module _ (one : OneReport) (says : Answers) (log : List (List ℕ)) where
     nothing_is_missing = record {
       tails = All-from_recursion (λ (f : Shortfall). f.tails ≡ []) short.known (all_below (λ (f : Shortfall). f.tails ≡ []) short.known (λ f h.
           empty_if f.tails (λ t i.
-          no_tail f.session t (All-contains (IsWholeTail says log end f.session) f.tails t (told_once.tails f (inl (contains_from_has short.known f h))) (contains_from_has f.tails t i)))));
+          no_tail f.session t (All-contains (IsWholeTail says stored end f.session) f.tails t (told_once.tails f (inl (contains_from_has short.known f h))) (contains_from_has f.tails t i)))));
       blocks = All-from_recursion (λ (f : Shortfall). f.blocks ≡ []) short.known (all_below (λ (f : Shortfall). f.blocks ≡ []) short.known (λ f h.
           empty_if f.blocks (no_missing_run f (told_once.runs f (inl (contains_from_has short.known f h))))));
       sessions = empty_if short.absent no_absent;
@@ -344,7 +346,7 @@ module _ (one : OneReport) (says : Answers) (log : List (List ℕ)) where
       whole_night = night_report says log [] (Some end)
 
       abbrev out : OutsideAreThese [] (Some end) (report says log) whole_night
-      out = outside says log [] (Some end)
+      out = outside None says log [] (Some end)
 
       no_run_outside : (rs : List NumberRun) → AreRuns rs → ((r : NumberRun) → Contains rs r → r.first ≤ r.last → ⊥) → rs ≡ []
       no_run_outside rs are none =

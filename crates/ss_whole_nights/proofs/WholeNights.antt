@@ -14,7 +14,8 @@ use Rattle.ss_review.specs.sessions.Verified.{Answers, joined}
 use Rattle.ss_review.specs.assign.Assigned.{has_hash}
 use Rattle.ss_review.specs.Laws.{AnnouncedAreTold, ListedAreAssigned, OneReport}
 use Rattle.ss_clean_nights.specs.NightLaws.{NightsLeaveOutTheRest, NumbersOutsideAreThese}
-use Rattle.ss_clean_nights.specs.CleanLaws.{CleanNightsHaveAll, Night, AreCleanNights, last_end}
+use Rattle.ss_clean_nights.specs.CleanLaws.{Night, AreCleanNights, last_end}
+use Rattle.ss_clean_nights.specs.CompleteLaws.{CompleteNightsHaveAll}
 use Rattle.ss_clean_nights.specs.MissingLaws.{MissingIsReportedOnce}
 use Rattle.ss_whole_nights.specs.WholeNights.{logs_of, IsJoinedUnder, HaveOnePayload, HaveNoTwins, WholeNightsAreClean}
 use Rattle.ss_octets.proofs.Members.{Has, has_from_contains, contains_from_has, from_has-map, has-append_cases}
@@ -71,7 +72,7 @@ pub record AreTogether (says : Answers) (ns : List Night) (first end : List Coun
   pub joined_in : (b : BlockMessage) → Has log.blocks b → IsJoinedIn says ns log.blocks b.session
 
 module _ (told : AnnouncedAreTold) (listed : ListedAreAssigned) (one : OneReport) (range : BlocksAreInRange) (leave : NightsLeaveOutTheRest)
-    (missing : MissingIsReportedOnce) (have : CleanNightsHaveAll) (says : Answers) where
+    (missing : MissingIsReportedOnce) (have : CompleteNightsHaveAll) (says : Answers) where
   module _ (first : List Counter) (n : Night) (ns : List Night) (clean : AreCleanNights says first (n ∷ ns)) (payloads : HaveOnePayload says (n ∷ ns)) (twins : HaveNoTwins (n ∷ ns))
       (rest : AreTogether says ns n.end (last_end n.end ns) (contents (notes (logs_of ns)))) where
     abbrev whole : Contents
@@ -160,7 +161,7 @@ module _ (told : AnnouncedAreTold) (listed : ListedAreAssigned) (one : OneReport
   all_nights first (n ∷ ns) clean payloads twins =
       one_more first n ns clean payloads twins (all_nights n.end ns clean.2 (later_payloads n ns payloads) (later_twins n ns twins))
 
-pub whole_clean : AnnouncedAreTold → ListedAreAssigned → OneReport → BlocksAreInRange → NightsLeaveOutTheRest → MissingIsReportedOnce → CleanNightsHaveAll → NumbersOutsideAreThese → WholeNightsAreClean
+pub whole_clean : AnnouncedAreTold → ListedAreAssigned → OneReport → BlocksAreInRange → NightsLeaveOutTheRest → MissingIsReportedOnce → CompleteNightsHaveAll → NumbersOutsideAreThese → WholeNightsAreClean
 whole_clean told listed one range leave missing have outside says ns clean payloads twins =
     let w = all_nights told listed one range leave missing have says [] ns clean payloads twins in
     record {

@@ -6,7 +6,7 @@ ghost use Rattle.ss_whole_nights.specs.WholeRows.{LogsArePutTogether, WholeNight
 use ss_block::laws::readings::{blocks_are_in_range, readings_are_of_values};
 use ss_block::laws::writing::{certificates_are_read, signatures_are_read};
 use ss_clean_nights::laws::{
-    clean_nights_have_all, missing_is_reported_once, nights_leave_out_the_rest,
+    complete_nights_have_all, missing_is_reported_once, nights_leave_out_the_rest,
     numbers_outside_are_these, small_night_is_clean,
 };
 use ss_review::laws::reports::{announced_are_told, listed_are_assigned, one_report};
@@ -24,7 +24,7 @@ pub fn whole_nights_are_clean()
     blocks_are_in_range();
     nights_leave_out_the_rest();
     missing_is_reported_once();
-    clean_nights_have_all();
+    complete_nights_have_all();
     numbers_outside_are_these();
 }
 
