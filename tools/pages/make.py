@@ -60,7 +60,7 @@ def main(words: Sequence[str]) -> int:
         for name, text in made.items():
             path = os.path.join(words[0] if words else ROOT, name)
             os.makedirs(os.path.dirname(path), exist_ok=True)
-            with open(path, "w", encoding="ascii", newline="\n") as file:
+            with open(path, "w", encoding="utf-8" if name.endswith(".md") else "ascii", newline="\n") as file:
                 file.write(text)
     except (Unreadable, OSError, UnicodeError) as fault:
         sys.stderr.write(f"make-pages: {fault}\n")
