@@ -1,6 +1,7 @@
 #!/usr/bin/env bash
-# The manual pages: that they are what tools/make-pages makes of the program here, that `man` and mandoc complain of
-# nothing, and that each command has the options of its --help and no other, with their values and the texts of both.
+# The manual pages, and the lists of clauses, edits and decisions: that they are what tools/make-pages makes, that `man`
+# and mandoc complain of nothing, and that each command has the options of its --help and no other, with their values and
+# the texts of both.
 # shellcheck source=tests/lib.sh
 . "$(dirname -- "$0")/lib.sh"
 need_program
@@ -17,7 +18,12 @@ if [[ $has_cryptography ]]; then
         holds "man/$page is what tools/make-pages makes: run make pages" cmp -- "$scratch/made/man/$page" "$root/man/$page"
     done
     holds 'no other page is made' test "$(ls "$scratch/made/man")" = "$(printf '%s\n' "${pages[@]}" | sort)"
-    holds 'nothing but pages and completions is made' test "$(ls "$scratch/made")" = $'completions\nman'
+    while IFS= read -r page; do
+        holds "$page has the lists that tools/make-pages makes: run make pages" cmp -- "$scratch/made/$page" "$root/$page"
+    done < <(cd -- "$scratch/made" && find crates docs -type f | sort)
+    holds 'the lists of each crate, of edits and of decisions are made' \
+        test "$(cd -- "$scratch/made" && find crates docs -type f | grep -vc '^crates/[a-z_]*/README.md$')" = 2
+    holds 'nothing else is made' test "$(ls "$scratch/made")" = $'completions\ncrates\ndocs\nman'
 else
     # the help of a command loads all of it
     skip "what needs the help of ssign-keys, since the Python module cryptography is missing"
