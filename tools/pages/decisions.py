@@ -9,11 +9,9 @@ from .help import Unreadable
 FOLDER = "docs/dev"
 # the heading of a page, and the lines below it
 PAGE = re.compile(r"^(## \[[^]]*\]\((decisions/[\w-]+\.md)\)\n)(?:\n(?:- .*\n)+)?", re.M)
-# a decision: its heading, its number, and its first sentence
-DECISION = re.compile(r"^## ((\d+)\. .*)\n\n(.+?\.)(?= |$)", re.M)
+# a decision: its heading, with its number and what was chosen, and the text below it
+DECISION = re.compile(r"^## ((\d+)\. (.*))\n\n(?=\S)", re.M)
 HEADING = re.compile(r"^## ", re.M)
-# a link, which leads elsewhere from another folder: its text alone is taken
-LINK = re.compile(r"\[([^]]*)\]\([^)]*\)")
 NEXT = re.compile(r"(?<=The next number is )\d+")
 
 
@@ -23,7 +21,7 @@ def anchor(heading: str) -> str:
 
 
 def with_decisions(read: Callable[..., str]) -> str:
-    """The page with a line for each decision: its number, its link and its first sentence."""
+    """The page with a line for each decision: its number, and its heading as the link."""
     places: Dict[int, str] = {}
 
     def lines_of(page: "re.Match[str]") -> str:
@@ -31,14 +29,13 @@ def with_decisions(read: Callable[..., str]) -> str:
         text, lines = read(*FOLDER.split("/"), *page[2].split("/")), []
         found = list(DECISION.finditer(text))
         if len(found) != len(HEADING.findall(text)):
-            raise Unreadable(f"{FOLDER}/{page[2]} has a heading without a number, or one without a sentence below it")
+            raise Unreadable(f"{FOLDER}/{page[2]} has a heading without a number, or one without a text below it")
         for it in found:
             number = int(it[2])
             if number in places:
                 raise Unreadable(f"the decision {number} stands in {places[number]} and in {page[2]}")
             places[number] = page[2]
-            said = LINK.sub(r"\1", it[3])
-            lines.append(f"- [{number}]({page[2]}#{anchor(it[1])}): {said}\n")
+            lines.append(f"- {number}: [{it[3]}]({page[2]}#{anchor(it[1])})\n")
         return f"{page[1]}\n{''.join(lines)}"
 
     text = PAGE.sub(lines_of, read(*FOLDER.split("/"), "DECISIONS.md"))
