@@ -20,8 +20,7 @@ use Rattle.ss_review.specs.declared.report.entry.Entry.TheVariants as entry
 use Rattle.ss_review.specs.declared.report.group_report.GroupReport.{GroupReport}
 use Rattle.ss_review.specs.declared.report.report.Report.{Report}
 use Rattle.ss_review.specs.declared.report.session_report.SessionReport.{SessionReport}
-use Rattle.ss_review.specs.counted.KeptLaws.{shortfalls_of}
-use Rattle.ss_review.specs.report.Report.{report}
+use Rattle.ss_review.specs.pinned.Stands.{shortfalls_by}
 use Rattle.ss_review.specs.report.Verdict.{is_clean, is_joined, is_listed, is_none}
 use Rattle.ss_review.specs.sessions.Verified.{Answers}
 use Rattle.ss_between.specs.Between.{NumberRun, SessionBetween, session_between, absent_left}
@@ -31,13 +30,13 @@ use Rattle.ss_report.specs.lines.Lines.{itemized, UnlistedLine, RefusedLine, End
 use Rattle.ss_report.specs.lines.Settled.{is_settled}
 use Rattle.ss_report.specs.lines.Whole.{absent_lines, missing_line, shortfall_lines, tail_line}
 use Rattle.ss_report.specs.lines.Between as between
-use Rattle.ss_report.specs.lines.Between.{early_line, beyond_line, night_lines, lines_of_night, lines_between, between_verdict}
+use Rattle.ss_report.specs.lines.Between.{early_line, beyond_line, night_lines, lines_of_night, lines_between}
 use Rattle.ss_report.specs.Verdict.{is_clean_ending, is_clean_tail, verdict_of}
 use Rattle.ss_report.specs.declared.log.ending.Damage.{Damage}
 use Rattle.ss_report.specs.declared.log.ending.Ending.{Ending}
-use Rattle.ss_clean_nights.specs.Night.{NightReport, end_counters, night_by, night_report}
+use Rattle.ss_clean_nights.specs.Night.{NightReport, end_counters, log_report, night_by}
 use Rattle.ss_clean_nights.specs.CleanLaws.{IsCleanNight}
-use Rattle.ss_clean_nights.specs.VerdictLaws.{VerdictsAreOfNights}
+use Rattle.ss_clean_nights.specs.VerdictLaws.{verdict_between, VerdictsAreOfNights}
 use Rattle.ss_octets.proofs.Members.{Has, has-map, contains_from_has, from_has-map}
 use Rattle.ss_review.proofs.of_lists.Rising.{all_below}
 use Rattle.ss_review.proofs.of_lists.Tests.{all_member, member_all}
@@ -251,23 +250,23 @@ same_end : (second : Option (List Counter)) → between.end_counters second ≡ 
 same_end None = refl
 same_end (Some cs) = refl
 
-module _ (says : Answers) (log : List (List ℕ)) (first : List Counter) (second : Option (List Counter)) (ending : Ending) where
+module _ (known : Option (List (List ℕ))) (says : Answers) (log : List (List ℕ)) (first : List Counter) (second : Option (List Counter)) (ending : Ending) where
   abbrev r : Report
-  r = report says log
+  r = log_report known says log
 
   abbrev n : NightReport
-  n = night_report says log first second
+  n = night_by known says log first second
 
   abbrev settled : Bool
   settled = (list_all is_settled_night n.sessions && is_none n.absent) && is_settled_rest r ending
 
-  verdict_is : between_verdict says first second log ending ≡ verdict_of settled
+  verdict_is : verdict_between known says first second log ending ≡ verdict_of settled
   unfolding night_by
   verdict_is =
-      ap (λ cs. verdict_of (list_all is_settled (lines_between itemized (Some first) second r (shortfalls_of says log cs) ending))) (same_end second)
-      ∙ ap verdict_of (settled_all first second r (shortfalls_of says log (end_counters second)) ending)
+      ap (λ cs. verdict_of (list_all is_settled (lines_between itemized (Some first) second r (shortfalls_by known says log cs) ending))) (same_end second)
+      ∙ ap verdict_of (settled_all first second r (shortfalls_by known says log (end_counters second)) ending)
 
-  there : between_verdict says first second log ending ≡ verdicts.Clean → IsCleanNight r n × (ending.damaged ≡ []) × (ending.tail ≡ tails.Clean)
+  there : verdict_between known says first second log ending ≡ verdicts.Clean → IsCleanNight r n × (ending.damaged ≡ []) × (ending.tail ≡ tails.Clean)
   there e =
       let all = verdict_clean settled (sym verdict_is ∙ e) in
       let outer = and_parts (list_all is_settled_night n.sessions && is_none n.absent) (is_settled_rest r ending) all in
@@ -276,7 +275,7 @@ module _ (says : Answers) (log : List (List ℕ)) (first : List Counter) (second
       let both = and_parts (is_none ending.damaged) (is_clean_tail ending.tail) rest.1 in
       (clean_from r n front.0 front.1 rest.0, none_is ending.damaged both.0, clean_tail ending.tail both.1)
 
-  back : IsCleanNight r n × (ending.damaged ≡ []) × (ending.tail ≡ tails.Clean) → between_verdict says first second log ending ≡ verdicts.Clean
+  back : IsCleanNight r n × (ending.damaged ≡ []) × (ending.tail ≡ tails.Clean) → verdict_between known says first second log ending ≡ verdicts.Clean
   back p =
       let c = clean_to r n p.0 in
       let front = and_from (list_all is_settled_night n.sessions) (is_none n.absent) c.0 c.1 in
@@ -286,4 +285,4 @@ module _ (says : Answers) (log : List (List ℕ)) (first : List Counter) (second
       verdict_is ∙ ap verdict_of all
 
 pub verdicts_of_nights : VerdictsAreOfNights
-verdicts_of_nights says log first second ending = (there says log first second ending, back says log first second ending)
+verdicts_of_nights known says log first second ending = (there known says log first second ending, back known says log first second ending)
