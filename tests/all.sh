@@ -1,8 +1,10 @@
 #!/usr/bin/env bash
 # Runs the tests of this folder, several at a time: what `make test` does, and ./check.
 #
-#     tests/all.sh [--gate] [-j N] [NAME..]    N at a time (without it one for each processor); those of these names, or
-#                                              all. With --gate a script that lacks what the gate makes has failed
+#     tests/all.sh [--all | --gate] [-j N] [NAME..]
+#
+# N at a time (without it one for each processor); those of these names, or all. Without names those that take minutes
+# count as skipped, unless --all is given, or --gate. With --gate a script that lacks what the gate makes has failed.
 #
 # The program is that of tests/lib.sh: SSIGN, or the one that was built here, or the recorded one. Each line says how a
 # script ended; of one that failed all that it said stands before. Then follows what was skipped, and why. A script that is
@@ -15,15 +17,22 @@ longest=1800
 # the scripts that take longest begin first, so that none of them is alone at the end
 first=(setup verify live large refusals kept archive salvage_keys keys salvage stamps disputes answers-out linear strangers mistakes ssign sealing deliveries
     verdict reports bombs manifest)
+# those that take minutes of a processor: all others together take less than ten minutes of four
+slow=(verify live sessions verdict)
 
 usage() {
-    echo 'usage: tests/all.sh [--gate] [-j N] [NAME..]' >&2
+    echo 'usage: tests/all.sh [--all | --gate] [-j N] [NAME..]' >&2
     exit 2
 }
 
 unset SSIGN_GATE
+has_all=
 if [[ ${1-} == --gate ]]; then
     export SSIGN_GATE=1
+    has_all=1
+    shift
+elif [[ ${1-} == --all ]]; then
+    has_all=1
     shift
 fi
 
@@ -62,10 +71,17 @@ fi
 remove_compiled() {
     [[ ! $compiled ]] || rm -rf -- tools/*/__pycache__
 }
+left=()
 if [[ ${#names[@]} == 0 ]]; then
     for it in "${first[@]}" $(cd tests && printf '%s\n' *.sh); do
         it=${it%.sh}
-        case " lib all ${names[*]} " in *" $it "*) ;; *) [[ ! -f tests/$it.sh ]] || names+=("$it") ;; esac
+        case " lib all ${names[*]} ${left[*]} " in *" $it "*) continue ;; esac
+        [[ -f tests/$it.sh ]] || continue
+        if [[ ! $has_all && " ${slow[*]} " == *" $it "* ]]; then
+            left+=("$it")
+        else
+            names+=("$it")
+        fi
     done
 fi
 
@@ -113,9 +129,12 @@ wait "$runner"
 remove_compiled
 
 # what scripts say of tools that aren't here
-for it in "${names[@]}"; do
-    sed -nE "s/^$it: /    &/; / passed, |: FAILED\$/d; /: (left out|skipped|warning): /p" -- "$scratch/$it.said"
-done >"$scratch/skipped"
+{
+    for it in "${names[@]}"; do
+        sed -nE "s/^$it: /    &/; / passed, |: FAILED\$/d; /: (left out|skipped|warning): /p" -- "$scratch/$it.said"
+    done
+    [[ ${#left[@]} == 0 ]] || printf '    %s: left out: it takes minutes; --all runs it\n' "${left[@]}"
+} >"$scratch/skipped"
 if [[ -s $scratch/skipped ]]; then
     echo 'all: skipped:'
     sort -u -- "$scratch/skipped"
@@ -124,5 +143,6 @@ for it in "${names[@]}"; do
     read -r one other more <"$scratch/$it.counts" 2>"$scratch/fault" || { one=0 other=1 more=0; echo "$it: it never ended"; }
     passed=$((passed + one)) failed=$((failed + other)) skipped=$((skipped + more))
 done
+skipped=$((skipped + ${#left[@]}))
 printf '%d passed, %d failed, %d skipped\n' "$passed" "$failed" "$skipped"
 [[ $failed == 0 && $passed != 0 ]]

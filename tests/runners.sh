@@ -86,7 +86,8 @@ ends() {
 all() {
     local what=$1 wanted=$2 last=$3
     shift 3
-    kept tests/all.sh -j 2 "$@"
+    case ${1-} in --all) set -- --all -j 2 "${@:2}" ;; *) set -- -j 2 "$@" ;; esac
+    kept tests/all.sh "$@"
     tell "$what" "$([[ $status == "$wanted" && $(tail -n 1 "$scratch/out") == "$last" && ! -s $scratch/err ]] || cat "$scratch/out" "$scratch/err"
         [[ $(grep -cE '^[0-9]+ passed, [0-9]+ failed, [0-9]+ skipped$' "$scratch/out") == 1 ]] || echo 'more than one line of bare counts')"
 }
@@ -147,6 +148,15 @@ expect 'no Python: another one' 0 $'some: skipped: what needs it, which is missi
 rm -- tests/{late,nothing,adding,asks,some}.sh
 rm -- tests/{bad,lying,silent,killed}.sh
 all 'all of them' 0 '8 passed, 0 failed, 1 skipped'
+# one of those that take minutes is left out, unless it is named or all are asked for
+ends verify '20 passed, 0 failed' 0
+all 'all of them but a slow one' 0 '8 passed, 0 failed, 2 skipped'
+holds 'it is named, and how it is run' grep -qx '    verify: left out: it takes minutes; --all runs it' "$scratch/out"
+all 'a slow one that is named' 0 '23 passed, 0 failed, 0 skipped' verify good
+all 'a slow one, where all are asked for' 0 '28 passed, 0 failed, 1 skipped' --all
+kept tests/all.sh --gate -j 2
+tell 'a slow one in the gate' "$([[ $status == 1 && $(tail -n 1 "$scratch/out") == '28 passed, 1 failed, 0 skipped' ]] || cat "$scratch/out" "$scratch/err")"
+rm -- tests/verify.sh
 # are_gone FILE..: whether the processes whose numbers stand in the files have ended.
 # shellcheck disable=SC2317
 are_gone() {
