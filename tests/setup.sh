@@ -13,7 +13,7 @@ cd -- "$copy" || exit 1
 
 # A copy that looks for nothing in the folders of this machine, and doesn't wait long.
 sed -e "s|/usr/local/bin /usr/bin\$|$scratch/none|; s|/usr/bin/python3|$scratch/none/python3|g; s|^PATH=.*||; s|^policy=.*|policy=$policy|" \
-    -e "s|^/usr/include|$scratch/none|; s|^/lib/systemd|$scratch/none|; s/apt 600 /apt 15 /" \
+    -e "s,^/usr/include\|^/usr/lib/python3/dist-packages\|^/lib/systemd,$scratch/none,; s/apt 600 /apt 15 /" \
     -- "$root/setup" >setup
 for it in ssign-keys archive; do
     sed "s|/usr/bin/python3 /usr/local/bin/python3|$scratch/none/python3|" -- "$root/tools/$it" >"tools/$it.true"
