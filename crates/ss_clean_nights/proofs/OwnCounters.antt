@@ -1,6 +1,6 @@
 -- What a log announces is below the counters that it gives, so a clean log is a clean night up to them.
 use Rattle.std.proofs.Common.{◌≡◌, inl, inr, ℕ, ◌<◌, ◌≤◌, Bool, true, false, ◌&&◌, List, [], ◌∷◌, map, fold, refl, sym, ap, ◌∙◌, subst, arith}
-use Rattle.std.specs.Prelude.{max, if◌then◌else◌, Some, None, Result, Ok, Err, All}
+use Rattle.std.specs.Prelude.{max, if◌then◌else◌, Option, Some, Result, Ok, Err, All}
 use Rattle.std.specs.List.{zip, list_all, filter_map}
 use Rattle.std.proofs.lemmas.Bool.{and_parts, and_from}
 use Rattle.std.proofs.lemmas.List.Elements.{All-contains, All-from_recursion}
@@ -25,18 +25,19 @@ use Rattle.ss_review.specs.sessions.Sessions.{same_session, sessions, of_session
 use Rattle.ss_review.specs.sessions.Verified.{Answers, joined, state_in, is_valid_in, is_verified}
 use Rattle.ss_review.specs.announced.Announced.{Key}
 use Rattle.ss_review.specs.announced.Announcing.{IsAnnounced}
-use Rattle.ss_review.specs.report.Meaning.{Tells}
+use Rattle.ss_review.specs.report.Meaning.{Tells, IsTold}
 use Rattle.ss_review.specs.report.Report.{report}
 use Rattle.ss_review.specs.report.Verdict.{is_joined, is_listed, is_none, is_clean}
 use Rattle.ss_review.specs.Laws.{AnnouncedAreTold}
+use Rattle.ss_review.specs.pinned.Stands.{PinnedReportsAreOfLogs, shortfalls_by}
 use Rattle.ss_review.specs.counted.Counted.{counted_session, counted_sessions, next_number}
 use Rattle.ss_review.specs.counted.CountedLaws.{NextNumbersFollow}
 use Rattle.ss_review.specs.counted.Kept.{counters_of, kept_number, number_said, number_in}
-use Rattle.ss_review.specs.counted.KeptLaws.{shortfalls_of, NothingIsMissing, group_given, session_given, given_beside, counters_given, log_counters}
+use Rattle.ss_review.specs.counted.KeptLaws.{NothingIsMissing, group_given, session_given, given_beside, counters_given, log_counters}
 use Rattle.ss_between.specs.Between.{number_at, entry_left, group_left, session_left, own_tail_left, run_left, gbc_at, shortfall_left, absent_left, SessionBetween, NumberRun}
-use Rattle.ss_clean_nights.specs.Night.{NightReport, night_report, IsEarly, IsBeyond}
+use Rattle.ss_clean_nights.specs.Night.{NightReport, end_counters, log_report, night_by, report_left, shortfalls_left, IsEarly, IsBeyond}
 use Rattle.ss_clean_nights.specs.NightLaws.{AreRuns, NumbersOutsideAreThese}
-use Rattle.ss_clean_nights.specs.SmallNights.{AnnouncedAreBelowOwnCounters, CleanLogsAreCleanNights}
+use Rattle.ss_clean_nights.specs.SmallNights.{own_counters, AnnouncedAreBelowOwnCounters, CleanLogsAreCleanNights}
 use Rattle.ss_octets.proofs.Members.{Has, has-map, has_from_contains, contains_from_has, from_has-map, has-filter, has-flat_map, from_has-filter_map}
 use Rattle.ss_between.proofs.Below.{is_group}
 use Rattle.ss_review.proofs.of_counters.CountedRange.{said_in_range}
@@ -46,6 +47,8 @@ use Rattle.ss_review.proofs.of_lists.Tests.{all_member, member_all}
 use Rattle.ss_review.proofs.of_reports.EntriesRise.{fold_max-member}
 use Rattle.ss_clean_nights.proofs.Left.{cut_report, cut_all}
 use Rattle.ss_clean_nights.proofs.NightParts.{report_is, shortfalls_are}
+use Rattle.ss_clean_nights.proofs.StandIns.{StandsIn, stand_in, same_night}
+use Rattle.ss_clean_nights.proofs.CompleteNights.{announced_by}
 
 -- ---- a session with a verified block is joined
 
@@ -127,8 +130,15 @@ module _ (told : AnnouncedAreTold) (follow : NextNumbersFollow) (range : BlocksA
     ],
   )
 
-pub announced_below : AnnouncedAreTold → NextNumbersFollow → BlocksAreInRange → AnnouncedAreBelowOwnCounters
-announced_below told follow range says log k a = below_own told follow range says log k a
+-- a log that stands for another one gives the same counters
+same_counters : (known : Option (List (List ℕ))) (says : Answers) (log other : List (List ℕ)) → StandsIn known says log other → log_counters says other ≡ own_counters known says log
+same_counters known says log other s = λ i. counters_given (s.sessions i) (counted_sessions says (s.blocks_are i))
+
+pub announced_below : AnnouncedAreTold → NextNumbersFollow → BlocksAreInRange → PinnedReportsAreOfLogs → AnnouncedAreBelowOwnCounters
+announced_below told follow range of_logs known says log k a =
+    let w : (other : List (List ℕ)) × StandsIn known says log other = stand_in of_logs known says log in
+    let there : IsAnnounced says (blocks (notes w.0)) k = subst (λ (bs : List BlockMessage). IsAnnounced says bs k) (sym w.1.blocks_are) a in
+    subst (λ (cs : List Counter). (1 ≤ k.number) × (k.number < kept_number cs k.session k.group)) (same_counters known says log w.0 w.1) (below_own told follow range says w.0 k there)
 
 -- ---- what is left of a clean report is clean
 
@@ -233,23 +243,42 @@ pub begins_at_1 : (s : Session) (g : Group) → number_at [] s g ≡ 1
 unfolding number_in
 begins_at_1 s g = refl
 
-pub clean_logs : AnnouncedAreTold → NumbersOutsideAreThese → AnnouncedAreBelowOwnCounters → CleanLogsAreCleanNights
-clean_logs told outside below says log clean nothing =
-    let end = log_counters says log in
-    let n = night_report says log [] (Some end) in
-    let out = outside None says log [] (Some end) in
+-- what is left of a night from no counter on is what is cut out of its report
+night_report_is : (known : Option (List (List ℕ))) (says : Answers) (log other : List (List ℕ)) → StandsIn known says log other → (first : List Counter) (second : Option (List Counter))
+    → report_left (log_report known says log) (night_by known says log first second) ≡ cut_report first (log_report known says log)
+night_report_is known says log other s first second =
+    let q = log_report known says log in
+    ap (λ (n : NightReport). report_left q n) (sym (same_night known says log other s first second))
+    ∙ ap (λ (x : Report). record q { sessions = x.sessions }) (report_is says other first second)
+    ∙ ap (λ (ss : List SessionReport). record q { sessions = map (session_left first) ss }) s.sessions
+
+night_shortfalls_are : (known : Option (List (List ℕ))) (says : Answers) (log other : List (List ℕ)) → StandsIn known says log other → (first : List Counter) (second : Option (List Counter))
+    → shortfalls_left (night_by known says log first second) ≡ cut_all first (shortfalls_by known says log (end_counters second))
+night_shortfalls_are known says log other s first second =
+    ap shortfalls_left (sym (same_night known says log other s first second))
+    ∙ shortfalls_are says other first second
+    ∙ ap (cut_all first) (s.missing (end_counters second))
+
+pub clean_logs : AnnouncedAreTold → NumbersOutsideAreThese → PinnedReportsAreOfLogs → AnnouncedAreBelowOwnCounters → CleanLogsAreCleanNights
+clean_logs told outside of_logs below known says log clean nothing =
+    let end = own_counters known says log in
+    let r = log_report known says log in
+    let n = night_by known says log [] (Some end) in
+    let out = outside known says log [] (Some end) in
+    let w : (other : List (List ℕ)) × StandsIn known says log other = stand_in of_logs known says log in
+    let announced = λ (k : Key) (t : IsTold r k). (announced_by told of_logs known says log k).0 t in
     record {
-      clean = subst (λ r. is_clean r ≡ true) (sym (report_is says log [] (Some end))) (report_clean [] (report says log) clean);
-      nothing_missing = subst NothingIsMissing (sym (shortfalls_are says log [] (Some end))) (nothing_left [] (shortfalls_of says log end) nothing);
+      clean = subst (λ x. is_clean x ≡ true) (sym (night_report_is known says log w.0 w.1 [] (Some end))) (report_clean [] r clean);
+      nothing_missing = subst NothingIsMissing (sym (night_shortfalls_are known says log w.0 w.1 [] (Some end))) (nothing_left [] (shortfalls_by known says log end) nothing);
       no_early = none_early n out.early_runs (λ k e.
-          (let w = (out.early k).0 e in
-          let low = (below says log k ((told says log k).0 w.0)).0 in
-          let less = w.1 in
+          (let t = (out.early k).0 e in
+          let low = (below known says log k (announced k t.0)).0 in
+          let less = t.1 in
           let one = begins_at_1 k.session k.group in
           absurd (omega (arith, low, less, one))));
       no_beyond = none_beyond n out.beyond_runs (λ k e.
-          (let w = (out.beyond k).0 e in
-          let high = (below says log k ((told says log k).0 w.0)).1 in
-          let low = w.1 in
+          (let t = (out.beyond k).0 e in
+          let high = (below known says log k (announced k t.0)).1 in
+          let low = t.1 in
           absurd (omega (arith, low, high))));
     }

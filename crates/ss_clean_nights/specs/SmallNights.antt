@@ -1,5 +1,5 @@
 -- Logs that are clean nights up to their own counters, and a small one that meets the premises.
-use Rattle.std.specs.Prelude.{◌≡◌, ℕ, ◌<◌, ◌≤◌, true, Some, List, [], ◌∷◌}
+use Rattle.std.specs.Prelude.{◌≡◌, ℕ, ◌<◌, ◌≤◌, true, Option, Some, List, [], ◌∷◌}
 use Rattle.ss_review.specs.declared.counted.counter.Counter.{Counter}
 use Rattle.ss_review.specs.keep.Notes.{notes}
 use Rattle.ss_review.specs.keep.Contents.{blocks}
@@ -10,28 +10,35 @@ use Rattle.ss_review.specs.report.Meaning.{IsTold}
 use Rattle.ss_review.specs.report.Report.{report}
 use Rattle.ss_review.specs.report.Verdict.{is_clean}
 use Rattle.ss_review.specs.counted.Kept.{kept_number}
-use Rattle.ss_review.specs.counted.KeptLaws.{shortfalls_of, NothingIsMissing, log_counters}
+use Rattle.ss_review.specs.counted.KeptLaws.{NothingIsMissing, counters_given, log_counters}
+use Rattle.ss_review.specs.pinned.Pinned.{counted_by}
+use Rattle.ss_review.specs.pinned.Stands.{shortfalls_by}
 use Rattle.ss_review.specs.deliveries.Delivered.{own_number}
 use Rattle.ss_review.specs.deliveries.SmallChains.{accepting, whole}
 use Rattle.ss_between.specs.Between.{number_at}
-use Rattle.ss_clean_nights.specs.Night.{night_report}
+use Rattle.ss_clean_nights.specs.Night.{log_blocks, log_report, night_by, night_report}
 use Rattle.ss_clean_nights.specs.CleanLaws.{IsCleanNight, AreCleanNights}
+
+-- the counters of a log, by the payloads that are known beforehand, or without any
+abbrev pub own_counters : Option (List (List ℕ)) → Answers → List (List ℕ) → List Counter
+own_counters known says log =
+    counters_given (log_report known says log).sessions (counted_by known says (blocks (notes log)))
 
 -- Each announced number of a log is at least 1, and below the counter that the log itself gives.
 abbrev pub AnnouncedAreBelowOwnCounters : Type 0
 AnnouncedAreBelowOwnCounters =
-    (says : Answers) (log : List (List ℕ)) (k : Key)
-    → IsAnnounced says (blocks (notes log)) k
-    → (1 ≤ k.number) × (k.number < kept_number (log_counters says log) k.session k.group)
+    (known : Option (List (List ℕ))) (says : Answers) (log : List (List ℕ)) (k : Key)
+    → IsAnnounced says (log_blocks known says log) k
+    → (1 ≤ k.number) × (k.number < kept_number (own_counters known says log) k.session k.group)
 
 -- A clean log, of which nothing is missing up to the counters that it gives, is a clean night that begins with no
 -- counter and ends at these.
 abbrev pub CleanLogsAreCleanNights : Type 0
 CleanLogsAreCleanNights =
-    (says : Answers) (log : List (List ℕ))
-    → is_clean (report says log) ≡ true
-    → NothingIsMissing (shortfalls_of says log (log_counters says log))
-    → IsCleanNight (report says log) (night_report says log [] (Some (log_counters says log)))
+    (known : Option (List (List ℕ))) (says : Answers) (log : List (List ℕ))
+    → is_clean (log_report known says log) ≡ true
+    → NothingIsMissing (shortfalls_by known says log (own_counters known says log))
+    → IsCleanNight (log_report known says log) (night_by known says log [] (Some (own_counters known says log)))
 
 -- A night in which nothing was sent is clean: its log is empty, and it ends at the counters at which it begins.
 abbrev pub IdleNightsAreClean : Type 0

@@ -126,6 +126,7 @@ pub fn announced_are_below_own_counters()
     announced_are_told();
     next_numbers_follow();
     blocks_are_in_range();
+    pinned_reports_are_of_logs();
 }
 
 /// A clean log of which nothing is missing up to its own counters is a clean night, from no counter up to these.
@@ -134,6 +135,7 @@ pub fn clean_logs_are_clean_nights()
 {
     announced_are_told();
     numbers_outside_are_these();
+    pinned_reports_are_of_logs();
     announced_are_below_own_counters();
 }
 
