@@ -3,8 +3,8 @@
 
     schema.py
 
-The programs are the file that the variable SSIGN names, and tools/ssign-keys. Each kind of line in the tables of
-docs/dev/FORMATS.md has a branch with its keys in their order. With a key too many, one too few, or a value of a wrong
+The programs are the file that the variable SSIGN names, and tools/ssign-keys. Each kind of line that
+docs/dev/FORMATS.md states has a branch with its keys in their order. With a key too many, one too few, or a value of a wrong
 type an object is refused. The pages beside the schemas have each word of them. The last line is
 `schema: N passed, M failed`.
 """
@@ -36,14 +36,19 @@ Path = Tuple[Any, ...]
 LINES = {"jsonschema": 32, "cryptography": 46, "openssl": 6}
 # without these keys an object is one of another run, and so is an `end` without its count
 MAY_LACK = {"from", "missing_up_to_counters", "missing_blocks", "left_out", "stamped"}
-# the tables of these sections of docs/dev/FORMATS.md have kinds of lines, as `| line | keys |`, or a command in front
-SECTIONS = {"A report as JSON": REPORT, "Other lines as JSON": REPORT, "A verdict as JSON": VERDICT,
-            "Nights as JSON": VERDICT, "A manifest": VERDICT}
-SESSION = ["host", "app", "procid", "rsid"]
-GROUP = [*SESSION, "sg", "spri"]
-# what FORMATS.md states for many kinds of a verdict's lines in one sentence
-FRONTS = {"session": SESSION, "blocks": SESSION,
-          **dict.fromkeys(("ok", "gap", "hole", "disorder", "early", "beyond", "tail"), GROUP)}
+# the tables of these sections of docs/dev/FORMATS.md have lines of `ssign`: a word, and its fields in capitals
+LINE_TABLES = ("A report", "A tally", "Counters", "An inspection")
+# those of these have kinds of objects: what `line` has, and the other keys
+KEY_TABLES = {"Other lines as JSON": REPORT, "A verdict as JSON": VERDICT, "Nights as JSON": VERDICT}
+# these have kinds of objects in a sentence, as "`line` is `explanation`, and `table`, `code` and `text` follow"
+SENTENCES = {"Other lines as JSON": REPORT, "A manifest": VERDICT}
+# these lines of an inspection are of no message, and so never of a wrap
+NO_MESSAGE = ("damaged", "torn", "end")
+# a key, or a word in capitals that stands for several
+ITEM = r"(?:`\w+`|[A-Z]{4,})"
+LIST = rf"{ITEM}(?:(?:, | and |, and ){ITEM})*"
+# a schema, what `line` has, and the other keys
+Row = Tuple[str, ...]
 
 passed = failed = skipped = 0
 
@@ -194,62 +199,164 @@ def section(text: str, heading: str) -> str:
     return found[1]
 
 
-def cells(text: str) -> Iterator[List[str]]:
-    """The cells of each row of the tables whose head has `line`."""
+def table_rows(text: str, head: str) -> Iterator[str]:
+    """Each row of the tables whose first column has this head."""
     is_inside = False
     for row in text.splitlines():
         if not row.startswith("|"):
             is_inside = False
-        elif re.match(r"\| (Command \| )?`line` \|", row):
+        elif row.startswith(f"| {head} |"):
             is_inside = True
         elif is_inside and not row.startswith("|-"):
-            yield [it.strip() for it in row.strip("|").split("|")]
+            yield row
 
 
-def words_of(cell: str) -> List[str]:
-    """The words in backquotes of a cell, but for those in round brackets, and for what follows a semicolon."""
-    plain = re.sub(r"\(.*?\)", "", cell)
-    plain = re.sub(r"; (of|not|only) .*|: its number, or null", "", plain)
-    return [it for it in re.findall(r"`([^`]*)`", plain) if not it.startswith("--")]
+def cells(text: str, head: str) -> Iterator[List[str]]:
+    """The cells of each row of the tables whose first column has this head."""
+    for row in table_rows(text, head):
+        yield [it.strip() for it in row.strip("|").split("|")]
 
 
-def rows(text: str) -> Iterator[Tuple[str, str, List[str]]]:
-    """The schema, the word of `line`, and the other keys, of each row of the tables."""
-    for heading, name in SECTIONS.items():
-        for row in cells(section(text, heading)):
-            *_, words, keys = row
-            for word in words_of(re.sub(", (of a|after) .*", "", words)):
-                front = FRONTS.get(word, []) if heading == "A verdict as JSON" else []
-                if keys == "none":
-                    yield name, word, []
-                elif keys == "those of the word after the hyphen":
-                    yield name, word, [f"as {word.partition('-')[2]}"]
-                elif keys.startswith("`payload_index` in place of"):
-                    yield name, word, [f"once {word}"]
-                else:
-                    yield name, word, [*front, *words_of(keys)]
+def items(text: str, stands: Dict[str, List[str]]) -> List[str]:
+    """The keys of a list, with those for which a word in capitals stands."""
+    found: List[str] = []
+    for it in re.findall(ITEM, text):
+        found += [it.strip("`")] if it.startswith("`") else stands[it]
+    return found
+
+
+def stand_for(text: str) -> Dict[str, List[str]]:
+    """The words in capitals that stand for keys, such as GROUP, as a sentence of a section has them."""
+    stands: Dict[str, List[str]] = {}
+    for name, keys in re.findall(rf"([A-Z]{{4,}}) (?:stands )?for ({LIST})", text):
+        stands[name] = items(keys, stands)
+    return stands
+
+
+def keys_of(cell: str, stands: Dict[str, List[str]]) -> List[str]:
+    """The keys of a cell, without what stands in round brackets, or after a colon or a semicolon."""
+    plain = re.split("[:;] ", re.sub(r" \(.*?\)", "", cell))[0]
+    if plain == "none":
+        return []
+    assert re.fullmatch(LIST, plain), cell
+    return items(plain, stands)
+
+
+def lines(text: str) -> Iterator[Tuple[str, Row]]:
+    """The heading and the row of each line of `ssign`: its keys are its fields, spelled small but for some."""
+    names = dict(re.findall(r"\b([A-Z]\w*) is `(\w+)`", section(text, "A report as JSON")
+                            + section(text, "Other lines as JSON")))
+    wrapped = re.search(r"Its word is `([\w-]+)` and the word of the original's line", section(text, "An inspection"))
+    assert wrapped
+    for heading in LINE_TABLES:
+        for row in cells(section(text, heading), "Line"):
+            for it in re.findall(r"`([^`]*)`", row[0]):
+                word, *fields = it.split()
+                keys = [names.get(field, field.lower() if field.isupper() else f"no key: {field}") for field in fields]
+                yield heading, (REPORT, word, *keys)
+                if heading == "An inspection" and word not in NO_MESSAGE:
+                    yield heading, (REPORT, wrapped[1] + word, *keys)
+
+
+def kinds_of(text: str, heading: str, name: str) -> List[Row]:
+    """The rows of the table of keys of a section."""
+    part = section(text, heading)
+    stands = stand_for(part)
+    found: List[Row] = []
+    for words, keys in cells(part, "`line`"):
+        other = re.fullmatch(r"`(\w+)` in place of `(\w+)`, and then the keys above", keys)
+        link = re.fullmatch(r"the keys of the table in \[(.*?)\]\(.*?\), in its order", keys)
+        for word in re.findall(r"`([^`]*)`", re.sub(", of .*", "", words)):
+            if other:
+                above = [it for it in found if it[1:3] == (word, other[2])]
+                found += [(name, word, other[1], *it[3:]) for it in above]
+            elif link:
+                listed = [keys_of(row[0], {}) for row in cells(section(text, link[1]), "Key")]
+                found.append((name, word, *(key for it in listed for key in it)))
+            else:
+                found.append((name, word, *keys_of(keys, stands)))
+    return found
+
+
+def rows(text: str) -> Iterator[Row]:
+    """Each kind of line that the page states."""
+    for _, it in lines(text):
+        yield it
+    for heading, name in KEY_TABLES.items():
+        yield from kinds_of(text, heading, name)
+    for heading, name in SENTENCES.items():
+        plain = re.sub(r" \(.*?\)", "", section(text, heading))
+        for word, keys in re.findall(rf"`line` is `(\w+)`, (?:and|with) ({LIST})", plain):
+            yield (name, word, *items(keys, {}))
+
+
+def unlike(text: str) -> str:
+    """The lines of one word that have other fields in one section than in another."""
+    forms: Dict[str, Dict[str, List[Row]]] = {}
+    for heading, it in lines(text):
+        forms.setdefault(it[1], {}).setdefault(heading, []).append(it)
+    return "".join(f"{it}\n    " for it in forms.values() if any(one != list(it.values())[0] for one in it.values()))
+
+
+def faults_of(text: str, branches: List[Row]) -> Iterator[Tuple[str, str]]:
+    """What is wrong with each row of the page, and with the branches; empty where nothing is."""
+    wanted = dict.fromkeys(rows(text))
+    for it in wanted:
+        count = branches.count(it)
+        yield f"FORMATS.md: {it[0]}: {it[1]}", "" if count == 1 else f"{count} branches have the keys {it[2:]}"
+    yield "FORMATS.md: each branch has a row", "".join(f"{it}\n    " for it in sorted(set(branches) - set(wanted)))
+    yield "FORMATS.md: the lines of a word have the same fields everywhere", unlike(text)
+
+
+def with_key(head: str, row: str) -> str:
+    """A row of a table with a key too many."""
+    if head == "Line":
+        return re.sub(r"^(\| `[^`]*)", r"\1 PLANTED", row)
+    if head == "Key":
+        return re.sub(r"^\| ", "| `planted`, ", row)
+    more = re.sub(rf" \| ({ITEM})(?! in place)", r" | `planted`, \1", row, count=1)
+    return more.replace(" | none |", " | `planted` |")
+
+
+def without_key(head: str, row: str) -> str:
+    """A row of a table with a key too few; the row itself where it has none, and nothing where it was about one."""
+    if head == "Line":
+        return re.sub(r"^(\| `[^`]*) \w+`", r"\1`", row)
+    if head == "Key":
+        return "" if re.match(r"\| `\w+` \|", row) else re.sub(r"^\| `\w+`, ", "| ", row)
+    return re.sub(rf" \| {ITEM}(?:, )?(?! in place)", " | ", row, count=1).replace(" |  |", " | none |")
+
+
+def check_planted(text: str, branches: List[Row]) -> None:
+    """A key too many, or one too few, in a row of the page or in a branch is a fault."""
+    heads = {**dict.fromkeys(LINE_TABLES, "Line"), **dict.fromkeys(KEY_TABLES, "`line`"), "The verdict": "Key"}
+    for what, plant in (("too many", with_key), ("too few", without_key)):
+        taken, count = [], 0
+        for heading, head in heads.items():
+            part = section(text, heading)
+            for row in table_rows(part, head):
+                made = plant(head, row)
+                planted = text.replace(part, part.replace(f"{row}\n", f"{made}\n" if made else ""))
+                count += planted != text
+                if planted != text and not any(fault for _, fault in faults_of(planted, branches)):
+                    taken.append(f"{heading}: {row}")
+        tell(f"FORMATS.md: a key {what} in one of {count} rows", "\n    ".join(taken) if count else "there is no row")
+    for what, change in (("too many", lambda it: (*it, "planted")), ("too few", lambda it: (*it[:2], *it[3:]))):
+        taken = [str(one) for one in branches if change(one) != one and not any(
+            fault for _, fault in faults_of(text, [change(one) if it == one else it for it in branches]))]
+        tell(f"FORMATS.md: a key {what} in a branch", "\n    ".join(taken))
 
 
 def check_tables(schemas: Dict[str, Schema]) -> None:
-    """Each row of the tables has a branch with its keys, and each branch a row."""
+    """Each kind of line on the page has one branch with its keys, and each branch has a row or a line there."""
     with open(os.path.join(ROOT, "docs", "dev", "FORMATS.md"), encoding="utf-8") as file:
         text = file.read()
     # what stopped runs left out stands below the table of nights
-    rest = {(name, schema.word(kind), *(it for it in schema.keys(kind)[1:] if it != "left_out"))
-            for name, schema in schemas.items() if name != CHECK for kind in schema.kinds}
-    wanted = []
-    for name, word, keys in rows(text):
-        if keys and keys[0].startswith("as "):
-            wanted += [(name, word, *it[2:]) for it in wanted if it[:2] == (name, keys[0][3:])]
-        elif keys and keys[0].startswith("once "):
-            whole = [it for it in wanted if it[:2] == (name, word) and it[2] == "payload"]
-            wanted += [(name, word, "payload_index", *it[3:]) for it in whole]
-        else:
-            wanted.append((name, word, *keys))
-    # an inspection has `spoilt`, `damaged`, `torn` and `end` as a report has them
-    for it in dict.fromkeys(wanted):
-        tell(f"FORMATS.md: {it[0]}: {it[1]}", "" if it in rest else f"no branch has the keys {it[2:]}")
-    tell("FORMATS.md: each branch has a row", "".join(f"{it}\n    " for it in sorted(rest - set(wanted))))
+    branches = [(name, schema.word(kind), *(it for it in schema.keys(kind)[1:] if it != "left_out"))
+                for name, schema in schemas.items() if name != CHECK for kind in schema.kinds]
+    for what, fault in faults_of(text, branches):
+        tell(what, fault)
+    check_planted(text, branches)
     check_words(text, schemas)
 
 
@@ -261,8 +368,8 @@ def check_words(text: str, schemas: Dict[str, Schema]) -> None:
             ("Spoilt blocks", "No.", defs[REPORT]["spoil"]["enum"]),
             ("A manifest", "`kind`", defs[VERDICT]["manifest"]["properties"]["kind"]["enum"]),
             ("Findings of a check", "Kind", defs[CHECK]["kind"]["enum"])):
-        table = section(text, heading).partition(f"| {head} |")[2]
-        firsts = re.findall(r"^\| (.*?) \|", table, re.MULTILINE)
+        # a row may have one of its cases alone, as "`empty`, where `where` is `manifest`"
+        firsts = [re.sub(", where .*", "", row[0]) for row in cells(section(text, heading), head)]
         words = [word for it in firsts for word in re.findall(r"[\w-]+", it)]
         tell(f"FORMATS.md: {heading}: {head}", "" if set(words) == set(found) else f"{words}, and not {found}")
 
