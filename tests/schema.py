@@ -377,7 +377,7 @@ def check_words(text: str, schemas: Dict[str, Schema]) -> None:
 # ---- the pages of the book
 
 def page(name: str) -> str:
-    """A page of docs/user/reference/."""
+    """A page of docs/user/, by its name below reference/."""
     with open(os.path.join(ROOT, "docs", "user", "reference", name), encoding="utf-8") as file:
         return file.read()
 
@@ -405,9 +405,10 @@ def check_pages(schemas: Dict[str, Schema]) -> None:
 
 
 def check_files(schemas: Dict[str, Schema], folder: str) -> None:
-    """The examples of files.md are what the programs read and write."""
+    """The examples of files.md, and that of a trust file, are what the programs read and write."""
     global skipped
-    answers, counters, trust, link, status, places_of_lines = blocks(page("files.md"))
+    answers, counters, link, status, places_of_lines = blocks(page("files.md"))
+    trust = blocks(page("../how-to/check-a-log.md").partition("### A trust file\n")[2])[0]
     with open(os.path.join(ROOT, "examples", "four-messages.answers"), encoding="ascii") as file:
         tell("files.md: answers", "" if file.readline() == answers else answers)
     with open(os.path.join(ROOT, "examples", "signed", "signed.counters"), encoding="ascii") as file:
@@ -425,7 +426,7 @@ def check_files(schemas: Dict[str, Schema], folder: str) -> None:
     else:
         skipped += 1
     if HAS_SCHEMA and HAS_KEYS and HAS_OPENSSL:
-        tell("files.md: a trust file", schema_world.fault_of_trust(folder, trust))
+        tell("check-a-log.md: a trust file", schema_world.fault_of_trust(folder, trust))
         tell("files.md: set-aside messages", schema_world.fault_of_places(folder, places_of_lines))
     else:
         skipped += 2

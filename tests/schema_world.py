@@ -396,10 +396,13 @@ def checks(world: Signed, has_openssl: bool) -> Iterator[Case]:
 # ---- the examples of files.md, over what `keys_cases` made
 
 def fault_of_trust(folder: str, text: str) -> str:
-    """What is wrong with a trust file. Its files are a key and an authority of these tests."""
+    """What is wrong with a trust file. Its files are two keys and an authority of these tests."""
     trust = write(f"{folder}/example-trust", text.encode())
-    write(f"{folder}/gate.pem", read(f"{folder}/keys/public-key.pem"))
-    write(f"{folder}/authority.pem", read(f"{folder}/ca/ca.pem"))
+    os.mkdir(f"{folder}/another")
+    run([KEYS, "make", f"{folder}/another"])
+    for it, key in (("gate", "keys"), ("new", "another")):
+        write(f"{folder}/keys/{it}.pem", read(f"{folder}/{key}/public-key.pem"))
+    write(f"{folder}/ca.pem", read(f"{folder}/ca/ca.pem"))
     status, _, said = call([KEYS, "verify", "--trust", trust, f"{folder}/signed"])
     return "" if status == 1 and not said else f"status {status}: {said}"
 
