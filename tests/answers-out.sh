@@ -97,9 +97,10 @@ kinds=(file empty link dangling round folder fifo device)
 taken="ssign-keys: the file there/kept is there already, and isn't overwritten"
 # a program that takes the name while ssign reviews under the answers, after the first look
 # shellcheck disable=SC2016
-printf '#!/usr/bin/env bash\n[[ "$1 ${2-}" != "review --ask="* ]] || eval "$CHANGE"\nexec %q "$@"\n' "$program" >changing
+printf '#!/usr/bin/env bash\n. %q\n[[ "$1 ${2-}" != "review --ask="* ]] || eval "$CHANGE"\nexec %q "$@"\n' "$scratch/take.sh" "$program" >changing
 chmod +x changing
-export -f take
+# a function in the environment doesn't come through the shell that starts the tool
+declare -f take >take.sh
 # `blind OPTION..`: verify that sees no name taken until it is: as where it is taken a moment after the look
 cat >blind.py <<'P'
 import os, sys
