@@ -18,7 +18,8 @@ longest=1800
 first=(setup verify live large refusals kept archive salvage_keys keys salvage stamps disputes answers-out linear strangers mistakes ssign sealing deliveries
     verdict reports bombs manifest)
 # those that take minutes of a processor: all others together take less than ten minutes of four
-slow=(verify live sessions verdict)
+slow=(live verify refusals months stamps check verdict salvage_keys cost linear strangers disputes mistakes kept between
+    sealing sessions sign_folder)
 
 usage() {
     echo 'usage: tests/all.sh [--all | --gate] [-j N] [NAME..]' >&2

@@ -217,16 +217,16 @@ def main():
             status, plain = review(log, *answered(folder, answers))
             front = " ".join(["session", *names, "1", "joined"]).encode()
             tell(f"names {names[0][:4]}: joined", "" if status == 0 and plain.startswith(front + b"\n") else repr(plain[:400]))
-        # the examples of the book
+        # the example of the book
         with open(os.path.join(ROOT, "examples", "four-messages.frames"), "rb") as file:
             log = file.read().replace(b"abc", b"abd", 1)
-        for page, words in (("json.md", ["--findings", "--json"]), ("report.md", ["--tally"])):
-            with open(os.path.join(ROOT, "docs", "user", "reference", page), "rb") as file:
-                text = file.read()
-            call = " ".join(["./ssign review", *words, "--answers", "examples/four-messages.answers"])
-            status, made = review(log, *words, "--answers", os.path.join(ROOT, "examples", "four-messages.answers"))
-            shown = b"| %s\n\nprints, with status %d,\n\n    %s\n\n" % (call.encode(), status, b"\n    ".join(made.splitlines()))
-            tell(f"{page}: {' '.join(words)}", "" if shown in text else f"not in {page}: {shown!r}")
+        with open(os.path.join(ROOT, "docs", "user", "reference", "json.md"), "rb") as file:
+            text = file.read()
+        words = ["--findings", "--json", "--answers"]
+        call = " ".join(["./ssign review", *words, "examples/four-messages.answers"])
+        status, made = review(log, *words, os.path.join(ROOT, "examples", "four-messages.answers"))
+        shown = b"| %s\n\nprints, with status %d,\n\n    %s\n\n" % (call.encode(), status, b"\n    ".join(made.splitlines()))
+        tell("json.md: --findings --json", "" if shown in text else f"not in json.md: {shown!r}")
         # the objects by hand
         log, answers = sign(folder, messages[:1], "--host", 'a"b\\c', "--count", "1")
         status, made = review(log, "--json", *answered(folder, answers))
