@@ -67,14 +67,14 @@ leave_out() {
 
 # need_cryptography: leaves the test out where Python has no module cryptography.
 need_cryptography() {
-    python3 -c 'import cryptography' 2>"$scratch/fault" || leave_out 'the Python module cryptography is missing'
+    python3 -c 'import cryptography' 2>/dev/null || leave_out 'the Python module cryptography is missing'
 }
 
 # need_command COMMAND..: leaves the test out where one of these commands is missing.
 need_command() {
     local it
     for it in "$@"; do
-        command -v "$it" >"$scratch/fault" || leave_out "$it is missing"
+        command -v "$it" >/dev/null || leave_out "$it is missing"
     done
 }
 
@@ -225,6 +225,6 @@ finish() {
 }
 
 # A test that calls Python, or a tool that is written in it, can't be run without. tests/all.sh says where it is too old.
-if [[ ${SSIGN_NO_PYTHON-} ]] || ! command -v python3 >"$scratch/fault"; then
+if [[ ${SSIGN_NO_PYTHON-} ]] || ! command -v python3 >/dev/null; then
     [[ $name == all ]] || ! grep -qE 'python3|tools/|milliseconds' -- "$0" || leave_out 'Python 3.9 or newer is missing'
 fi
