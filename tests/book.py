@@ -49,7 +49,7 @@ def blocks(text: str) -> Iterator[Tuple[str, str, str]]:
 
 
 class Step:
-    """A block of commands, and what the page says of its end: its output, its last line or its status alone."""
+    """A block of commands, and what the page shows of its end: its output, its last line or its status alone."""
 
     def __init__(self, commands: str) -> None:
         self.commands = commands

@@ -1,5 +1,5 @@
 #!/usr/bin/env python3
-"""What `ssign counters` says of a log, by the definition in docs/dev/FORMATS.md.
+"""What `ssign counters` reports on a log, by the definition in docs/dev/FORMATS.md.
 
     counters.py model             the model alone, over the logs that were worked out by hand and over 2,000 logs by a seed
     counters.py compare PROGRAM   and the program, over these and over logs that it signed

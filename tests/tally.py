@@ -1,5 +1,5 @@
 #!/usr/bin/env python3
-"""What `ssign review --tally` says of a log, by the definition in docs/dev/FORMATS.md.
+"""What `ssign review --tally` reports on a log, by the definition in docs/dev/FORMATS.md.
 
     tally.py PROGRAM
 

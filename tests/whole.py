@@ -1,5 +1,5 @@
 #!/usr/bin/env python3
-"""What `ssign review --whole` says of signature blocks that are missing, by the definition in docs/dev/FORMATS.md.
+"""What `ssign review --whole` reports on signature blocks that are missing, by the definition in docs/dev/FORMATS.md.
 
     whole.py model             the model alone, over the logs that were worked out by hand
     whole.py compare PROGRAM   and the program, over these, over logs that it signed, and over 2,000 logs by a seed
