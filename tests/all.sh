@@ -19,7 +19,8 @@ first=(setup verify live large refusals kept archive salvage_keys keys salvage s
     verdict reports bombs manifest)
 # those that take minutes of a processor: all others together take less than ten minutes of four
 slow=(live verify refusals months stamps check verdict salvage_keys cost linear strangers disputes mistakes kept between
-    sealing sessions sign_folder page chains reports bombs keys)
+    sealing sessions sign_folder page chains reports bombs keys setup trust_file asking parts answers-out manifest install
+    check_memory salvage live_seal)
 
 usage() {
     echo 'usage: tests/all.sh [--all | --gate] [-j N] [NAME..]' >&2

@@ -1,7 +1,8 @@
 #!/usr/bin/env bash
 # ./setup: what it says, installs and ends with, over a package manager that is made up; how tools/ssign-keys and tools/archive
 # find a Python. Where debootstrap, its packages and root are to be had, also a fresh Debian of two releases, in which it has to
-# come to the verdict in under a minute. A network that is slow or missing is no failure.
+# come to the verdict in under a minute, and to run the scripts that are named to it. A network that is slow or missing is no
+# failure.
 # shellcheck source=tests/lib.sh
 . "$(dirname -- "$0")/lib.sh"
 copy=$scratch/copy
@@ -224,11 +225,12 @@ expect 'ssign-keys: a Python that is named stays' 2 '' \
 
 # ---- a fresh Debian
 releases=(bookworm trixie)
+scripts=(clean ask carry)
 # fresh RELEASE: makes one in a folder, and runs ./setup there. What doesn't come by the network in time is the reason in RELEASE.why.
 fresh() {
     local release=$1 folder=$scratch/$1 began inside=(chroot "$scratch/$1" env -i PATH=/usr/sbin:/usr/bin:/sbin:/bin ${http_proxy:+http_proxy="$http_proxy"})
-    if ! timeout -k 10 180 unshare -m debootstrap --variant=minbase "$release" "$folder" http://deb.debian.org/debian >"$release.made" 2>&1; then
-        echo "debootstrap made none in 180 seconds: $(tail -n 1 -- "$release.made")" >"$release.why"
+    if ! timeout -k 10 300 unshare -m debootstrap --variant=minbase "$release" "$folder" http://deb.debian.org/debian >"$release.made" 2>&1; then
+        echo "debootstrap made none in 300 seconds: $(tail -n 1 -- "$release.made")" >"$release.why"
         return
     fi
     mkdir -- "$folder/suhvatek" && tar -x -C "$folder/suhvatek" <"$scratch/archive" || return
@@ -238,6 +240,13 @@ fresh() {
     echo "$? $(($(date +%s) - began))" >"$release.end"
     "${inside[@]}" apt-mark showmanual | sort >"$release.after"
     timeout -k 10 30 "${inside[@]}" /suhvatek/setup run >"$release.again" 2>&1 </dev/null
+    # scripts need /dev/fd
+    ln -sfn -- /proc/self/fd "$folder/dev/fd"
+    began=$(date +%s)
+    # shellcheck disable=SC2016
+    timeout -k 10 600 unshare -m sh -c 'mount -t proc proc "$1/proc" && shift && exec "$@"' in "$folder" "${inside[@]}" \
+        /suhvatek/setup test "${scripts[@]}" >"$release.tests" 2>"$release.tests.err" </dev/null
+    echo "$? $(($(date +%s) - began))" >"$release.tests.end"
 }
 # checks_of RELEASE: what has to hold of it. The network may take its time.
 checks_of() {
@@ -261,6 +270,23 @@ checks_of() {
     holds "a fresh $release: two packages were asked for" test "$(comm -13 "$release.before" "$release.after" | xargs)" = "$pair"
     holds "a fresh $release: services may be started again" test ! -e "$release/usr/sbin/policy-rc.d"
     holds "a fresh $release: a second run installs nothing" test "$(grep -c '^setup: ' "$release.again").$(tail -n 1 -- "$release.again")" = "1.$(tail -n 1 -- "$release.out")"
+    checks_of_tests "$release"
+}
+# checks_of_tests RELEASE: what has to hold of ./setup test there.
+checks_of_tests() {
+    local release=$1 ended took said each
+    read -r ended took <"$release.tests.end"
+    if [[ $ended == 124 ]] || grep -q "can't be installed\|nothing is installed" "$release.tests.err"; then
+        skip "a fresh $release: ./setup test: apt-get took too long or failed: $took seconds in all; $(tail -n 1 -- "$release.tests.err")"
+        return
+    fi
+    said=$(tail -n 1 -- "$release.tests")
+    each="^($(IFS='|' && echo "${scripts[*]}")): [1-9][0-9]* passed, 0 failed"
+    echo "$name: a fresh $release: ./setup test ${scripts[*]}: $said, in $took seconds"
+    tell "a fresh $release: ./setup test" "$([[ $ended == 0 ]] || cat -- "$release.tests" "$release.tests.err")"
+    holds "a fresh $release: the last line counts" grep -qxE '[1-9][0-9]* passed, 0 failed, [0-9]+ skipped' <(echo "$said")
+    holds "a fresh $release: each script that was named ran" test "$(grep -cE "$each" "$release.tests")" = ${#scripts[@]}
+    holds "a fresh $release: what the tests need is installed" grep -qxE 'setup: installed .* in [0-9]+ seconds' "$release.tests.err"
 }
 cd -- "$scratch" || exit 1
 if [[ $EUID != 0 ]] || ! command -v debootstrap >"$scratch/fault" || ! unshare -m true 2>"$scratch/fault"; then
