@@ -474,7 +474,8 @@ def cut_answers():
         for _ in range(3):
             if run.status == 0:
                 break
-            run = it.run(b"")
+            # a start that isn't answered reads no message
+            run = it.run(b"" if it.originals() else framed(wanted))
         with open(cuts, encoding="ascii") as file:
             left = file.read()
         tell("connections that break in an answer", differ("status", run.status, 0) and f"{run.status} {run.said}",
