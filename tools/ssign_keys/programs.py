@@ -95,6 +95,7 @@ class Run:
         """Where the output goes to subprocess.PIPE, it is read with `lines`; where the log comes from there, `feed` it."""
         self.name = f"ssign {words[0]}"
         self._progress = progress
+        self._workplace = workplace
         self._said = workplace.new_file("said")
         self._passed = 0
         self._rest = b""
@@ -120,6 +121,7 @@ class Run:
         assert self.child.stdout is not None
         with self.child.stdout as out:
             while not select.select([out], [], [], PAUSE)[0]:
+                self._workplace.go_on()
                 self._pass_on()
                 tick()
             for line in out:
@@ -140,6 +142,7 @@ class Run:
             ends = []
         try:
             while not any(select.select([*ends, *reads], writes, [], PAUSE)) and self.child.poll() is None:
+                self._workplace.go_on()
                 self._pass_on()
                 yield
         finally:

@@ -42,7 +42,8 @@ class Workplace:
     def __init__(self) -> None:
         self._children: List[Union[subprocess.Popen[bytes], Forked]] = []
         self._puts_off = False
-        self._put_off: Optional[int] = None
+        # the signal that came
+        self._number: Optional[int] = None
         self.kept_open: Tuple[int, ...] = ()
         """Descriptors that each child keeps open, as that of a lock: where this process is killed, its child may still write."""
 
@@ -55,10 +56,9 @@ class Workplace:
                 os._exit(128 + number)
             for it in self.SIGNALS:
                 signal.signal(it, signal.SIG_IGN)
-            if self._puts_off or is_leaving(frame):
-                self._put_off = number
-                return
-            raise Ended(number)
+            self._number = number
+            if not self._puts_off and not is_leaving(frame):
+                raise Ended(number)
 
         self._puts_off = True
         # what whoever started this process had ignored, as nohup does, stays ignored
@@ -69,12 +69,11 @@ class Workplace:
         try:
             self._folder = tempfile.TemporaryDirectory(prefix="ssign-keys-")
         except OSError as error:
-            self._let_go(self._put_off)
+            self._let_go(self._number)
             raise Fault(f"no folder for passing files can be made: {error.strerror}; look at TMPDIR") from error
         try:
             self._puts_off = False
-            if self._put_off is not None:
-                raise Ended(self._put_off)
+            self.go_on()
             return self
         except Ended as ended:
             # whoever raises here doesn't come to the end of the block
@@ -92,7 +91,7 @@ class Workplace:
                 child.kill()
                 child.wait()
         self._folder.cleanup()
-        self._let_go(error.number if isinstance(error, Ended) else self._put_off)
+        self._let_go(self._number)
         if isinstance(error, OSError) and error.errno in NO_ROOM:
             # a file that couldn't be written fails once more where it is closed
             raise no_room(error) from error
@@ -104,6 +103,13 @@ class Workplace:
         if number is not None:
             signal.signal(number, signal.SIG_DFL)
             os.kill(os.getpid(), number)
+
+    def go_on(self) -> None:
+        """Raises `Ended` if a signal came. Whoever waits calls it now and then: what a signal raises while Python closes a file that
+        nobody refers to any more is dropped without a word.
+        """
+        if self._number is not None:
+            raise Ended(self._number)
 
     def path(self, name: str) -> str:
         """The path of a passing file of this name."""
@@ -159,8 +165,7 @@ class Workplace:
             yield
         finally:
             self._puts_off = False
-            if self._put_off is not None:
-                raise Ended(self._put_off)
+            self.go_on()
 
 
 def is_leaving(frame: Optional[FrameType]) -> bool:
