@@ -1,7 +1,7 @@
 #!/usr/bin/env bash
 # `ssign-keys verify` of a stranger's log takes steps by the length of the log. Counted are the octets of the questions
 # and the answers, those of base64 that are read and written, and the programs that are run. Twice the log takes at most
-# three times the time.
+# three times the time, by the least of three measures where others use the processors too.
 # shellcheck source=tests/lib.sh
 . "$(dirname -- "$0")/lib.sh"
 need_program
@@ -63,11 +63,33 @@ try() {
         holds "$kind, $at: no other program" test ! -e called
         # each text is looked at, decoded and spelled again, by functions of the library that call one another
         holds "$kind, $at: octets of base64" test "$(<counted.base64)" -lt $((40 * size + 1000))
-        took+=("$(milliseconds timeout 100 "$keys_program" verify "$@" --ssign "$program" log)")
+        mv log "log.$at"
+        took+=("$(taken "$at" "$@")")
     done
+    for _ in 1 2; do
+        ! is_linear || break
+        number=0
+        for at in $counts; do
+            took[number]=$(least "${took[number]}" "$(taken "$at" "$@")")
+            number=$((number + 1))
+        done
+    done
+    holds "$kind: ${took[*]} ms for ${sizes[*]} octets" is_linear
+}
+# taken COUNT OPTION..: how long a verdict on the log of so many takes, in milliseconds.
+taken() {
+    milliseconds timeout 100 "$keys_program" verify "${@:2}" --ssign "$program" "log.$1"
+}
+# is_linear: whether each of the times is at most three times the one before it.
+is_linear() {
+    local number
     for ((number = 1; number < ${#took[@]}; number++)); do
-        holds "$kind: ${took[*]} ms for ${sizes[*]} octets" test "${took[number]}" -lt $((3 * took[number - 1] + 500))
+        ((took[number] < 3 * took[number - 1] + 500)) || return 1
     done
+}
+# least NUMBER NUMBER: the lesser of the two.
+least() {
+    echo $(($1 < $2 ? $1 : $2))
 }
 try long '1000 2000' --key one/public-key.pem
 try long '1000 2000 4000' --session-key 'h s - 1' one/public-key.pem --max-payload 5M
