@@ -54,5 +54,6 @@ plays "$signings" stops::wants_memory_or_gives_the_output rows::makes
 plays "$signings" wraps::wraps_or_wants_memory wraps::long_wraps_are_refused
 plays "$salvages" damaged::damaged_logs damaged::many_octets 2
 plays "$signings" answers::goes_on_after_want_of_memory answers::refuses
+plays "$signings" places::goes_on_after_want_of_memory places::refuses 2
 
 finish

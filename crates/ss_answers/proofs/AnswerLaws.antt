@@ -54,7 +54,7 @@ line_text-some (Yes p o s) e = cc
 line_text-some (Seal o s) e = cc
 
 are_spelt : AreSpelt HasFields line_text
-are_spelt = record { clear = λ line fields. Clear-line_text line; some = line_text-some; apart = line_text-injective }
+are_spelt = record { clear = λ line fields. Clear-line_text line; some = λ line fields. line_text-some line; apart = line_text-injective }
 
 pub no_text_is_good_and_bad : NoTextIsGoodAndBad
 no_text_is_good_and_bad = laws.none_good_and_bad HasFields line_text are_spelt

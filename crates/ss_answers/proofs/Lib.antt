@@ -14,6 +14,8 @@ mod LineLaws
 mod OrderedLines
 mod PartLaws
 mod PartLines
+mod PlaceLaws
+mod PlaceLines
 mod ReadLines
 mod ReadParts
 pub mod Starts

@@ -11,7 +11,7 @@ use Rattle.ss_answers.proofs.ReadLines.{first_clear}
 -- what is wanted of a kind of lines: no line feed stands in one, none is empty, and no two have one text
 pub record AreSpelt {A : Type 0} (good : A → Type 0) (spell : A → List ℕ) : Type 0 where
   pub clear : (line : A) → good line → Clear lf (spell line)
-  pub some : (line : A) → [] ≡ spell line → ⊥
+  pub some : (line : A) → good line → [] ≡ spell line → ⊥
   pub apart : (a b : A) → good a → good b → spell a ≡ spell b → a ≡ b
 
 -- the text of lines begins with that of the first
@@ -85,6 +85,20 @@ bad_is_determined good spell are text m n one two =
     let same = same_place good spell are one.lines two.lines one.rest two.rest one.fields two.fields (sym one.before ∙ two.before) one.bad two.bad in
     omega (arith, same, one.place, two.place)
 
+-- lines at the front of a text of lines are its first ones
+pub first_ones : {A : Type 0} (good : A → Type 0) (spell : A → List ℕ) → AreSpelt good spell → (ms ns : List A) (rest : List ℕ)
+    → AllByRecursion good ms → AllByRecursion good ns → ended spell ms ++ rest ≡ ended spell ns
+    → (after : List A) × (ns ≡ ms ++ after) × (rest ≡ ended spell after)
+first_ones good spell are [] ns rest f g e = (ns, refl, e)
+first_ones good spell are (m ∷ ms) [] rest f g e =
+    absurd (omega (arith, ap length e, length-append (ended spell (m ∷ ms)) rest, ap length (ended-cons spell m ms), length-append (spell m) (lf ∷ ended spell ms)))
+first_ones good spell are (m ∷ ms) (n ∷ ns) rest f g e =
+    let parts = cut_clear lf (spell m) (ended spell ms ++ rest) (spell n) (ended spell ns) (are.clear m f.0) (are.clear n g.0)
+    (sym (ended-behind spell m ms rest) ∙ e ∙ ended-cons spell n ns) in
+    let more = first_ones good spell are ms ns rest f.1 g.1 parts.1 in
+    let same = are.apart m n f.0 g.0 parts.0 in
+    (more.0, ap (λ l. l ∷ ns) (sym same) ∙ ap (λ ls. m ∷ ls) more.1, more.2)
+
 ended-some : {A : Type 0} (spell : A → List ℕ) (line : A) (lines : List A) → 0 < length (ended spell (line ∷ lines))
 ended-some spell line lines = omega (arith, ap length (ended-cons spell line lines), length-append (spell line) (lf ∷ ended spell lines))
 
@@ -105,7 +119,7 @@ no_line_feed_more : {A : Type 0} (good : A → Type 0) (spell : A → List ℕ) 
     → AllByRecursion good ms → AllByRecursion good ns → ended spell ms ++ lf ∷ [] ≡ ended spell ns → ⊥
 no_line_feed_more good spell are ms ns f g e =
     let next = next_is_line good spell are ms ns (lf ∷ []) f g e (omega arith) in
-    are.some next.0 next.2
+    are.some next.0 next.1 next.2
 
 same_lines : {A : Type 0} (good : A → Type 0) (spell : A → List ℕ) → AreSpelt good spell → (text : List ℕ) (ms ns : List A)
     → AllByRecursion good ms → AllByRecursion good ns

@@ -55,18 +55,6 @@ bad_counter_is_determined text m n one two = laws.bad_is_determined good spell a
 
 -- ---- a text is whole
 
--- lines at the front of a text of lines are its first ones
-pub first_ones : (ms ns : List Line) (rest : List ℕ) → AllByRecursion good ms → AllByRecursion good ns
-    → ended spell ms ++ rest ≡ ended spell ns → (after : List Line) × (ns ≡ ms ++ after) × (rest ≡ ended spell after)
-first_ones [] ns rest f g e = (ns, refl, e)
-first_ones (m ∷ ms) [] rest f g e = absurd (omega (arith, ap length e, length-append (ended spell (m ∷ ms)) rest, ap length (ended-cons spell m ms), length-append (spell m) (lf ∷ ended spell ms)))
-first_ones (m ∷ ms) (n ∷ ns) rest f g e =
-    let parts = cut_clear lf (spell m) (ended spell ms ++ rest) (spell n) (ended spell ns) (are_spelt.clear m f.0) (are_spelt.clear n g.0)
-    (sym (ended-behind spell m ms rest) ∙ e ∙ ended-cons spell n ns) in
-    let more = first_ones ms ns rest f.1 g.1 parts.1 in
-    let same = are_spelt.apart m n f.0 g.0 parts.0 in
-    (more.0, ap (λ l. l ∷ ns) (sym same) ∙ ap (λ ls. m ∷ ls) more.1, more.2)
-
 -- no lines are a text without a line feed
 no_rest : (ns : List Line) (rest : List ℕ) → Clear lf rest → rest ≡ ended spell ns → ns ≡ []
 no_rest [] rest h e = refl
@@ -83,7 +71,7 @@ behind_lines : {text : List ℕ} {counters : List Counter} (has : HasCounters te
     → AllByRecursion good lines → text ≡ ended spell lines ++ rest
     → (after : List Line) × (lines_of has.parts [] ≡ lines ++ after) × (rest ≡ ended spell after)
 behind_lines has lines rest f e =
-    first_ones lines (lines_of has.parts []) rest f (text_lines has).fields (sym e ∙ has.spelt ∙ parts_are has.parts)
+    laws.first_ones good spell are_spelt lines (lines_of has.parts []) rest f (text_lines has).fields (sym e ∙ has.spelt ∙ parts_are has.parts)
 
 breaks_nowhere : {text : List ℕ} {counters : List Counter} (has : HasCounters text counters) (not : IsNotWhole text)
     → BreaksOff not.parts not.begun not.rest → ⊥

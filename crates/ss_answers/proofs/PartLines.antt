@@ -44,7 +44,7 @@ line-apart (End said) (Count c) h k e = absurd (omega (arith, ap (λ (t : List �
 line-apart (End said) (End other) h k e = let same : said ≡ other = cc in ap End same
 
 pub are_spelt : AreSpelt good spell
-are_spelt = record { clear = line-clear; some = line-some; apart = line-apart }
+are_spelt = record { clear = line-clear; some = λ line h. line-some line; apart = line-apart }
 
 -- ---- the line that ends a part
 

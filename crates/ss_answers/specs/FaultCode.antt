@@ -6,6 +6,8 @@ use Rattle.ss_answers.specs.declared.counters.fault.CounterFault.{CounterFault}
 use Rattle.ss_answers.specs.declared.counters.fault.CounterFault.TheVariants as counters
 use Rattle.ss_answers.specs.declared.counters.start_fault.StartFault.{StartFault}
 use Rattle.ss_answers.specs.declared.counters.start_fault.StartFault.TheVariants as starts
+use Rattle.ss_answers.specs.declared.places.fault.PlaceFault.{PlaceFault}
+use Rattle.ss_answers.specs.declared.places.fault.PlaceFault.TheVariants as places
 
 -- why a file of answers wasn't read
 abbrev pub answer_fault_code : AnswerFault → List ℕ × Option ℕ
@@ -27,3 +29,12 @@ abbrev pub start_fault_code : StartFault → List ℕ × Option ℕ
 start_fault_code starts.NoSession = (codes "C5", None)
 start_fault_code (starts.OtherGroup counter) = (codes "C6", Some counter)
 start_fault_code starts.Memory = (codes "C4", None)
+
+-- why a file of places wasn't read
+abbrev pub place_fault_code : PlaceFault → List ℕ × Option ℕ
+place_fault_code (places.BadLine line) = (codes "N1", Some line)
+place_fault_code places.Read = (codes "N2", None)
+place_fault_code places.TooBig = (codes "N3", None)
+place_fault_code places.TooMany = (codes "N3", None)
+place_fault_code places.NotWhole = (codes "N3", None)
+place_fault_code places.Memory = (codes "N4", None)

@@ -9,5 +9,7 @@ pub mod Seals
 pub mod CounterLine
 pub mod CounterFile
 pub mod CounterInput
+pub mod PlaceFile
+pub mod PlaceInput
 pub mod Start
 pub mod FaultCode

@@ -5,6 +5,8 @@ ghost use Rattle.ss_answers.specs.Input.{GivesAll, GivesPart, IsInputFault, IsRe
 
 use ss_frame::Watched;
 use std::alloc::{AllocError, Global};
+use std::fs::OpenFile;
+use std::io;
 use std::io::Read;
 
 /// The most octets that one read asks for.
@@ -19,6 +21,17 @@ pub enum InputFault {
     TooBig,
     /// Memory ran out.
     Memory,
+}
+
+/// How many octets a file has, where that is known.
+pub fn known_length<F: OpenFile>(opened: &io::Result<F>) -> Option<u64> {
+    let Ok(file) = opened else {
+        return None;
+    };
+    match file.metadata() {
+        Ok(metadata) => Some(metadata.len()),
+        Err(_) => None,
+    }
 }
 
 /// Reads all that a reader gives, which is at most `max` octets. It takes at most one octet more.

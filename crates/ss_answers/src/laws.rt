@@ -1,8 +1,9 @@
-//! Laws on all texts of answers, and on all texts of counters.
+//! Laws on all texts of answers, of counters and of places.
 ghost use Rattle.ss_answers.specs.Answers.{BadLineIsDetermined, LinesAreDetermined, NoTextIsGoodAndBad};
 ghost use Rattle.ss_answers.specs.Answers.{PayloadsAreThoseTrusted};
 ghost use Rattle.ss_answers.specs.CounterFile.{BadCounterIsDetermined, CountersAreDetermined, CountersAreWhole};
 ghost use Rattle.ss_answers.specs.CounterFile.{CutsAreSeen, NoCountersAreGoodAndBad, PartsHaveTheirCounters};
+ghost use Rattle.ss_answers.specs.PlaceFile.{PlacesAreReadBack};
 
 /// A text of answers has no bad line, so that a fault of a line comes only where there are no answers.
 pub fn no_text_is_good_and_bad()
@@ -54,4 +55,10 @@ pub fn parts_have_their_counters()
 /// has the counters of its own parts.
 pub fn cuts_are_seen()
     ensures { CutsAreSeen }
+{}
+
+/// At most 10,000,000 places below 10,000,000, written in decimal and each ended by a line feed, are a text that has these
+/// places and no others, in this order. No fault comes of it.
+pub fn places_are_read_back()
+    ensures { PlacesAreReadBack }
 {}

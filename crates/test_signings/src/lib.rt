@@ -10,6 +10,8 @@ mod lines_out;
 #[cfg(test)]
 mod many;
 #[cfg(test)]
+mod places;
+#[cfg(test)]
 mod rows;
 #[cfg(test)]
 mod run;

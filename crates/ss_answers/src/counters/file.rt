@@ -7,12 +7,11 @@ ghost use Rattle.ss_answers.specs.CounterInput.{is_too_long, read_failed};
 
 use crate::counters::fault::CounterFault;
 use crate::counters::lines::read_counter_lines;
-use crate::input::read_all;
+use crate::input::{known_length, read_all};
 use ss_frame::Watched;
 use ss_octets::List;
 use ss_review::Counters;
 use std::alloc::Global;
-use std::fs::OpenFile;
 use std::io::Read;
 use std::rt::Files;
 use std::{fs, io};
@@ -58,17 +57,6 @@ pub fn open_counters<R: Files + AllocGlobal>(rt: &R, path: &str) -> Result<Count
     let opened = fs::open(rt, path);
     let length = known_length(&opened);
     counters_from(rt.alloc(), opened, length)
-}
-
-/// How many octets a file has, where that is known.
-fn known_length<F: OpenFile>(opened: &io::Result<F>) -> Option<u64> {
-    let Ok(file) = opened else {
-        return None;
-    };
-    match file.metadata() {
-        Ok(metadata) => Some(metadata.len()),
-        Err(_) => None,
-    }
 }
 
 /// The counters of a file that was opened or couldn't be, as `open_counters` gives them. `length` is how many octets it
