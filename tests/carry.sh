@@ -91,7 +91,7 @@ refused 'an empty line' 'ssign: F9 0' --lines < <(echo)
 refused 'a folder as standard input' 'ssign: F3' <"$root"
 refused 'no such file of answers, told before the log' 'ssign: A2' --answers "$scratch/no such file" < <(printf x)
 refused 'a bad line of answers, told before the log' 'ssign: A1 1' --answers <(echo) < <(printf x)
-for option in --json --findings --whole --tally --unlisted --place=0 --lines-out "--counters=$scratch/x"; do
+for option in --json --findings --whole --tally --unlisted --place=0 --lines-out "--counters=$scratch/x" "--pinned=$answers"; do
     run carry "$option" <"$log"
     expect "$option" 2 '' 'SOME TEXT'
 done

@@ -66,12 +66,12 @@ FEW_CALLS = 100
 # a run that takes more seconds hangs, however busy the machine is
 PATIENCE = 300
 COMMANDS = (REVIEW, WHOLE, KEPT, NIGHT, TALLY, EXTRACT, UNLISTED, UNWRAPPED, QUESTIONS, ONCE, OBJECTS, INSPECT, ORIGINALS, PLAN,
-            AHEAD, RESUMED, SIGN, COUNTERS, CARRY, PINNED, ASKED, COUNTED, CARRIED, SALVAGED, LOOKED, SAVED) = (
+            AHEAD, RESUMED, SIGN, COUNTERS, CARRY, PINNED, ASKED, COUNTED, SALVAGED, LOOKED, SAVED) = (
     "review", "review --whole", "review --counters", "review --from", "review --tally", "extract", "extract --unlisted",
     "extract --unlisted --unwrap", "questions", "questions --once", "questions --once --json", "inspect", "inspect --unwrap",
     "plan", "plan --ahead", "plan --ahead --resume", "sign", "counters", "carry", "review --pinned", "questions --once --pinned",
-    "counters --pinned", "carry --pinned", "review --salvage", "inspect --salvage", "carry --salvage")
-BY_KNOWN = (PINNED, ASKED, COUNTED, CARRIED)
+    "counters --pinned", "review --salvage", "inspect --salvage", "carry --salvage")
+BY_KNOWN = (PINNED, ASKED, COUNTED)
 # those that make a review, and need no file but the log
 REVIEWS = [REVIEW, WHOLE, TALLY, EXTRACT, UNLISTED, UNWRAPPED, COUNTERS, CARRY, SALVAGED, SAVED]
 
@@ -115,10 +115,10 @@ SHAPES = [
     (logs.scattered, 900, [], [REVIEW, QUESTIONS]),
     (logs.stated, 900, [], [REVIEW]),
     (logs.totals, 900, [], [REVIEW]),
-    (logs.strangers_disagree, 900, [PINNED, ASKED], [COUNTED, CARRIED]),
-    (logs.strangers_agree, 900, [PINNED], [ASKED, COUNTED, CARRIED]),
-    (logs.strangers_apart, 900, [PINNED, ASKED], [COUNTED, CARRIED]),
-    (logs.strangers_payloads, 900, [PINNED, ASKED], [COUNTED, CARRIED]),
+    (logs.strangers_disagree, 900, [PINNED, ASKED], [COUNTED]),
+    (logs.strangers_agree, 900, [PINNED], [ASKED, COUNTED]),
+    (logs.strangers_apart, 900, [PINNED, ASKED], [COUNTED]),
+    (logs.strangers_payloads, 900, [PINNED, ASKED], [COUNTED]),
     (logs.spoilt, 900, [REVIEW], [INSPECT]),
     (logs.shortest, 3000, [REVIEW, INSPECT, LOOKED], [SALVAGED]),
     (logs.damaged_digits, 20_000, [LOOKED], [SALVAGED]),
@@ -195,7 +195,7 @@ UNANSWERED = [(logs.nothing, 0, REVIEWS), (logs.shortest, 10, REVIEWS), (logs.un
 # logs into which strangers wrote as many certificate blocks as there are messages, and the commands that are run by known
 # payloads and without any
 BESIDE = [logs.strangers_disagree, logs.strangers_agree]
-WITHOUT = {PINNED: REVIEW, ASKED: ONCE, COUNTED: COUNTERS, CARRIED: CARRY}
+WITHOUT = {PINNED: REVIEW, ASKED: ONCE, COUNTED: COUNTERS}
 # how many times the steps and the room of a run without known payloads one by them may take
 MOST_BY_KNOWN = 2
 
@@ -349,7 +349,7 @@ class Bench:
             with open(log + ".first", "wb") as file:
                 file.write(logs.counters_file(made.first))
             words, files = [log + ".first", "--counters", *words], [*files, log + ".first"]
-        if made.has_answers_file and command in (*REVIEWS, KEPT, NIGHT, SIGN, PINNED, COUNTED, CARRIED):
+        if made.has_answers_file and command in (*REVIEWS, KEPT, NIGHT, SIGN, PINNED, COUNTED):
             with open(log + ".answers", "wb") as file:
                 file.writelines(line + b"\n" for line in lines)
             words, files = words + ["--answers", log + ".answers"], [*files, log + ".answers"]
@@ -361,7 +361,7 @@ class Bench:
         if self.counter and stepped:
             with open(log, "rb") as file:
                 counts["steps"] = self.counter.count(words, stdin=file, env={**self.environment, **TUNED}) or 0
-        fault = fault_of(said, made.told(command), command in (EXTRACT, UNLISTED, UNWRAPPED, SIGN, CARRY, CARRIED, SAVED))
+        fault = fault_of(said, made.told(command), command in (EXTRACT, UNLISTED, UNWRAPPED, SIGN, CARRY, SAVED))
         return counts, fault, faults
 
     def counts(self, made, name, commands, stepped):

@@ -121,7 +121,6 @@ def nothing(n=0):
     for command in ("questions", "questions --once", "questions --once --json", "questions --once --pinned"):
         made.say(command, 0, {})
     made.say("counters --pinned", 0, {"end": 1})
-    made.say("carry --pinned", 0, 0)
     made.say("review --pinned", 0, {"end": 1})
     made.say("extract", 0, 0)
     made.say("inspect", 0, {"end": 1})
@@ -546,7 +545,6 @@ def attacked(n, strange, payloads=(PAYLOAD,), joined=True):
     made.say("counters --pinned", 0, {"count": 2, "end": 1})
     if joined:
         made.say("review --pinned", 1, {"session": 1, "ok": n, "refused": n, "end": 1})
-        made.say("carry --pinned", 0, 1)
         asked = len(payloads)
         made.say("questions --once --pinned", 0, {"payload": asked, "trust?": asked, "yes?": asked * (1 + n // 10 + n)})
     return made
@@ -575,7 +573,6 @@ def strangers_apart(n):
     """Each stranger's block is of another session, and states the payload."""
     made = attacked(n, lambda i: certificate(rsid=8 + i * 7919 % n), joined=False)
     made.say("review --pinned", 1, {"session": n + 1, "ok": n, "refused": n, "end": 1})
-    made.say("carry --pinned", 0, 1 + n)
     return made.say("questions --once --pinned", 0, {"payload": 1, "trust?": n + 1, "yes?": 1 + n // 10 + n})
 
 

@@ -240,7 +240,7 @@ def main():
         for words in (["extract", "--json"], ["extract", "--findings"], ["questions", "--findings"], ["counters", "--findings"],
                       ["review", "--once"], ["extract", "--once"], ["inspect", "--once"], ["counters", "--once"],
                       ["questions", "--once=x"], ["questions", "--once", "--once"], ["inspect", "--pinned", os.devnull],
-                      ["plan", "--pinned", os.devnull], ["carry", "--pinned", os.devnull, "--pinned", os.devnull],
+                      ["plan", "--pinned", os.devnull], ["carry", "--pinned", os.devnull],
                       ["carry", "--json"], ["carry", "--findings"], ["explain", "--json", "--json"], ["explain", "--findings", "F1"],
                       ["explain", "--json=x", "F1"], ["inspect", "--json", "--json"]):
             ran = subprocess.run([PROGRAM, *words], input=log, capture_output=True, check=False)

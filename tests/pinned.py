@@ -22,7 +22,7 @@ import sys
 import tempfile
 
 from counters import counters_text
-from nights import Told, carried
+from nights import Told
 from pinned_logs import make
 from review_examples import A, B, C, C11, C9A, C9B, CI, CX, H1, M1, M2, P1, S7, S7I, ZEROS, certificate, never, signature
 from review_model import Log, claimants, kept, questions, review
@@ -133,11 +133,6 @@ EXAMPLES = [
     ("only strangers", [M1, C11, certificate(fragment=P1, sign=FORGED), S7], OWN, [P1],
      [*DISPUTED, "unlisted 0", "refused 1", "refused 2", "refused 3", "end 4"]),
 ]
-# name, messages, answers, known payloads, the places that are carried over
-CARRIED = [
-    ("a block that is left out of a session that is joined", [M1, C, C11, S7], OWN, [P1], [1]),
-    ("a block that is left out of a session that is disputed", [M1, C, C11, CL[0], S7], BOTH, [P1, P2], [0, 1, 2, 3, 4]),
-]
 # name, messages, known payloads, which payload is asked about and how often
 QUESTIONS = [
     ("nothing is disputed", [C, S7], [P1], [(P1, 2)]),
@@ -160,11 +155,6 @@ def examples():
         log = Log(messages)
         trusted, valid = answers_to(log, answers, known)
         tell("the model of %s" % name, wanted, report_text(review(log, trusted, valid, known)))
-        cases.append((name, messages, trusted, valid, known))
-    for name, messages, answers, known, wanted in CARRIED:
-        log = Log(messages)
-        trusted, valid = answers_to(log, answers, known)
-        tell("what is carried over: %s" % name, wanted, sorted(carried(Told(log, (trusted, valid, known)))[0]))
         cases.append((name, messages, trusted, valid, known))
     for name, messages, known, wanted in QUESTIONS:
         said = []
@@ -203,13 +193,11 @@ def runs_of(messages, trusted, valid, known):
     lines = review(log, trusted, valid, known)
     text, missing = report_text(lines), whole_text(log, trusted, valid, None, known)
     part = kept(log, trusted, valid, known)
-    places = carried(Told(log, (trusted, valid, known)))[0]
     return {
         "review": (int(not is_clean(text)), joined(text)),
         "review --whole": (status_of(missing), joined(missing)),
         "extract": (int(not is_clean(text)), extract_text(lines, messages)),
         "counters": (0, ended(counters_text(part, trusted, valid))),
-        "carry": (0, b"".join(frame(messages[place]) for place in sorted(places))),
         "questions": (0, joined(question_text(questions(log, known)))),
         "questions --once": (0, joined(question_lines(log, ["--once"], known))),
         "questions --once --json": (0, joined(question_lines(log, ["--once", "--json"], known))),

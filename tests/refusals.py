@@ -236,12 +236,12 @@ def known_reviews():
     """Runs by payloads that are known beforehand, and refusals of their file. A session without a dispute stays as it is."""
     answers, octets = answers_of(EXAMPLE, ALL), b"".join(map(frame, EXAMPLE))
     text = answers_text(*answers)
-    for command in ("review", "extract", "questions", "questions --once --json", "counters", "carry"):
+    for command in ("review", "extract", "questions", "questions --once --json", "counters"):
         case = reviewed("a clean log, by known payloads,", command, octets, answers)
         yield case._replace(pinned=text)
         yield case._replace(name=case.name + " of which there are none", pinned=b"")
     yield Case("known payloads: a bad line", ["review"], octets, refused("A1 2"), text, pinned=text.splitlines(True)[0] + b"\n")
-    yield Case("known payloads: a bad line, and one of the answers", ["carry"], octets, refused("A1 1"), b"trust QQ==\nwant\n",
+    yield Case("known payloads: a bad line, and one of the answers", ["counters"], octets, refused("A1 1"), b"trust QQ==\nwant\n",
                pinned=b"want\n")
     yield Case("known payloads: a bad line, and one of the counters", ["review"], octets, refused("C1 1"), text, counters=b"count\n",
                pinned=b"want\n")

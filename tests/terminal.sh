@@ -146,8 +146,8 @@ refused 'no such file' 'A2' 'The answers file is --answers "no\n\u{1b}[31m file"
 refused 'a folder' 'A2' 'The answers file is --answers "/".' sign "${given[@]}" --answers /
 
 # ---- the file of known payloads
-refused 'carry: a line that is no known payload' 'A1 1' "The file of known payloads is --pinned \"$scratch/answers\"." \
-    carry --pinned "$scratch/answers" --answers /
+refused 'counters: a line that is no known payload' 'A1 1' "The file of known payloads is --pinned \"$scratch/answers\"." \
+    counters --pinned "$scratch/answers" --answers /
 refused 'a folder of known payloads' 'A2' 'The file of known payloads is --pinned "/".' questions --pinned /
 
 # ---- the file of the questions, and the answers after them

@@ -140,8 +140,7 @@ own_rules (Log Inspect) =
 own_rules (Log Counters) =
     text_rule (codes "answers") ∷ flag_rule (codes "json") ∷ text_rule (codes "pinned") ∷ flag_rule (codes "salvage")
     ∷ []
-own_rules (Log Carry) =
-    text_rule (codes "answers") ∷ text_rule (codes "pinned") ∷ flag_rule (codes "salvage") ∷ []
+own_rules (Log Carry) = text_rule (codes "answers") ∷ flag_rule (codes "salvage") ∷ []
 own_rules (Sent Plan) = text_rule (codes "resume") ∷ flag_rule (codes "ahead") ∷ flag_rule (codes "wrap") ∷ []
 own_rules (Sent Sign) =
     text_rule (codes "answers") ∷ text_rule (codes "resume") ∷ flag_rule (codes "wrap") ∷ flag_rule (codes "lines-out")

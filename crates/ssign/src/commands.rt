@@ -114,7 +114,7 @@ pub const CARRY: CommandRow = CommandRow {
     about: "Writes what the review of the next log needs of this one, as octet-counted frames: for sessions that go \
         on from log to log",
     note: Note::Usage("ssign carry [OPTIONS] < FILE"),
-    options: &[ANSWERS, PINNED, SALVAGE],
+    options: &[ANSWERS, SALVAGE],
     shared: &READING,
 };
 
