@@ -7,7 +7,7 @@ _ssign_keys_offer() {
     [[ $current == = ]] && current=
     case $1 in
     words) mapfile -t COMPREPLY < <(compgen -W "$2" -- "$current") ;;
-    codes) mapfile -t COMPREPLY < <(compgen -W 'F1 F2 F3 F4 F5 F9 A1 A2 A3 A4 Q1 C1 C2 C3 C4 C5 C6 V1 E1 E2 W1 W2 P1 P2 O1 O2 O3 O6 O7 O8 O9 O10 O11 verified unverified missing unannounced session ok gap lost hole early beyond blocks tail tally disorder unlisted refused spoilt damaged unlisted-count refused-count spoilt-count damaged-count torn empty end joined disputed incomplete malformed untrusted unaccepted absent plain unparsed signature certificate wrapped-plain wrapped-unparsed wrapped-signature wrapped-certificate wrapped-spoilt count want seal payload trust\? yes\? M1 M2 M3 M4 M5 M6 M7 M8 M9 M10 M11 M12 S1 S2 S3 S4 S5 S6 S7 S8 S9 L1 L2 L3 L4 L5 L6 L7 T1 T2 T3 T4 gone unproved manifest SHA-1 strangers' -- "$current") ;;
+    codes) mapfile -t COMPREPLY < <(compgen -W 'F1 F2 F3 F4 F5 F9 A1 A2 A3 A4 Q1 C1 C2 C3 C4 C5 C6 N1 N2 N3 N4 V1 E1 E2 W1 W2 P1 P2 O1 O2 O3 O6 O7 O8 O9 O10 O11 verified unverified missing unannounced session ok gap lost hole early beyond blocks tail tally disorder unlisted refused spoilt damaged unlisted-count refused-count spoilt-count damaged-count torn empty end joined disputed incomplete malformed untrusted unaccepted absent plain unparsed signature certificate wrapped-plain wrapped-unparsed wrapped-signature wrapped-certificate wrapped-spoilt count want seal payload trust\? yes\? M1 M2 M3 M4 M5 M6 M7 M8 M9 M10 M11 M12 S1 S2 S3 S4 S5 S6 S7 S8 S9 L1 L2 L3 L4 L5 L6 L7 T1 T2 T3 T4 gone unproved manifest SHA-1 strangers' -- "$current") ;;
     files)
         compopt -o filenames 2>/dev/null
         mapfile -t COMPREPLY < <(compgen -f -- "$current")

@@ -178,7 +178,7 @@ def cases(known):
     # a known payload is asked about, and certificate blocks under it, before the review, which then asks as ever
     with open(known, "wb") as file:
         file.write(b"trust %s\n" % b64(PAYLOAD))
-    for words in (["review"], ["extract"], ["counters"], ["carry"]):
+    for words in (["review"], ["extract"], ["counters"]):
         yield " ".join(words) + " --pinned", [*words, "--pinned", known], octets, joined.answers, None, {
             "sha1": hashes, "sha256": hashes, "reviews": 1, "files": 2, "asked": asked["asked"] + 2}
     yield "review without answers", ["review"], octets, None, 1, {**reviewed, "asked": 0}

@@ -56,7 +56,7 @@ TUNED = {"GLIBC_TUNABLES": "glibc.cpu.x86_rep_movsb_threshold=1000000000:glibc.c
 # the most octets that are taken at one time: two buffers, of which that of standard output is made before the command line
 # is read, and the command line; one buffer more for a file that an option names, and so many more for each octet that is
 # read or written
-ROOM, ROOM_OF_FILE, ROOM_FOR_EACH = 168 << 10, 1 << 16, 24
+ROOM, ROOM_OF_FILE, ROOM_FOR_EACH = 176 << 10, 1 << 16, 24
 # the same of all that is ever taken
 SPENT, SPENT_FOR_EACH = 512 << 10, 40
 # how much one read asks for
@@ -66,11 +66,12 @@ FEW_CALLS = 100
 # a run that takes more seconds hangs, however busy the machine is
 PATIENCE = 300
 COMMANDS = (REVIEW, WHOLE, KEPT, NIGHT, TALLY, EXTRACT, UNLISTED, UNWRAPPED, QUESTIONS, ONCE, OBJECTS, INSPECT, ORIGINALS, PLAN,
-            AHEAD, RESUMED, SIGN, COUNTERS, CARRY, PINNED, ASKED, COUNTED, SALVAGED, LOOKED, SAVED) = (
+            AHEAD, RESUMED, SIGN, COUNTERS, CARRY, PINNED, ASKED, COUNTED, SALVAGED, LOOKED, SAVED, SHOWN, PLACED) = (
     "review", "review --whole", "review --counters", "review --from", "review --tally", "extract", "extract --unlisted",
     "extract --unlisted --unwrap", "questions", "questions --once", "questions --once --json", "inspect", "inspect --unwrap",
     "plan", "plan --ahead", "plan --ahead --resume", "sign", "counters", "carry", "review --pinned", "questions --once --pinned",
-    "counters --pinned", "review --salvage", "inspect --salvage", "carry --salvage")
+    "counters --pinned", "review --salvage", "inspect --salvage", "carry --salvage",
+    "inspect --json --facts", "extract --places")
 BY_KNOWN = (PINNED, ASKED, COUNTED)
 # those that make a review, and need no file but the log
 REVIEWS = [REVIEW, WHOLE, TALLY, EXTRACT, UNLISTED, UNWRAPPED, COUNTERS, CARRY, SALVAGED, SAVED]
@@ -78,6 +79,8 @@ REVIEWS = [REVIEW, WHOLE, TALLY, EXTRACT, UNLISTED, UNWRAPPED, COUNTERS, CARRY, 
 # each shape, how large its smaller input is, the commands whose steps are counted, and those of which the rest is
 SHAPES = [
     (logs.signed, 900, [REVIEW, QUESTIONS, EXTRACT, INSPECT, SALVAGED], [COUNTERS, TALLY, CARRY, SAVED]),
+    (logs.placed, 900, [SHOWN, PLACED], []),
+    (logs.placed_often, 3000, [PLACED], [SHOWN]),
     (logs.unanswered, 900, [CARRY], [REVIEW, EXTRACT, UNLISTED]),
     (logs.by_sha256, 900, [], [REVIEW]),
     (logs.falling, 900, [], [WHOLE, QUESTIONS, EXTRACT, CARRY]),
@@ -341,6 +344,10 @@ class Bench:
             with open(log + ".counters", "wb") as file:
                 file.write(logs.counters_file(made.counters))
             words, files = [log + ".counters", *words], [*files, log + ".counters"]
+        if command in (SHOWN, PLACED):
+            with open(log + ".places", "wb") as file:
+                file.writelines(b"%d\n" % it for it in made.places)
+            words, files = [log + ".places", *words], [*files, log + ".places"]
         if command in BY_KNOWN:
             with open(log + ".known", "wb") as file:
                 file.writelines(b"trust %s\n" % it for it in made.known)
@@ -361,7 +368,7 @@ class Bench:
         if self.counter and stepped:
             with open(log, "rb") as file:
                 counts["steps"] = self.counter.count(words, stdin=file, env={**self.environment, **TUNED}) or 0
-        fault = fault_of(said, made.told(command), command in (EXTRACT, UNLISTED, UNWRAPPED, SIGN, CARRY, SAVED))
+        fault = fault_of(said, made.told(command), command in (EXTRACT, UNLISTED, UNWRAPPED, SIGN, CARRY, SAVED, PLACED))
         return counts, fault, faults
 
     def counts(self, made, name, commands, stepped):

@@ -21,14 +21,14 @@ PARSED = b"[ssign]"
 
 
 class Input:
-    """A log, its answers, the counters that were kept of it and before it, the payloads that are known beforehand, and what
-    each command says."""
+    """A log, its answers, the counters that were kept of it and before it, the payloads that are known beforehand, the places of
+    a file, and what each command says."""
 
     def __init__(self, *options, payload=PAYLOAD, answered=True):
         self.messages, self.options, self.says = [], list(options), {}
         self.payload = b64(payload)
         self.answers = [b"trust " + self.payload] if answered else []
-        self.counters, self.first, self.known = [], [], []
+        self.counters, self.first, self.known, self.places = [], [], [], []
         self.has_answers_file = True
         # of a log that is damaged, which no messages can give
         self.octets = None
@@ -125,6 +125,8 @@ def nothing(n=0):
     made.say("extract", 0, 0)
     made.say("inspect", 0, {"end": 1})
     made.say("inspect --unwrap", 0, {"end": 1})
+    made.say("inspect --json --facts", 0, {"end": 1})
+    made.say("extract --places", 0, 0)
     made.say("extract --unlisted", 0, 0)
     made.say("extract --unlisted --unwrap", 0, 0)
     made.say("carry", 0, 0)
@@ -156,8 +158,24 @@ def signed(n):
     return made.say("inspect", 0, {"certificate": 1, "plain": n, "signature": n // 10, "end": 1})
 
 
+def placed(n):
+    """The same, and a file has the place of each message, from the last one on."""
+    made = signed(n)
+    made.places = list(reversed(range(len(made.messages))))
+    made.say("extract --places", 0, len(made.messages))
+    return made.say("inspect --json --facts", *made.told("inspect"))
+
+
+def placed_often(n):
+    """The same, and a file has two places, each of them again and again."""
+    made = signed(n)
+    made.places = [1, 0] * n
+    made.say("extract --places", 0, 2)
+    return made.say("inspect --json --facts", *made.told("inspect"))
+
+
 def unanswered(n):
-    """The same, and nobody answers."""
+    """Ten messages in a block, and nobody answers."""
     made = signed(n)
     made.answers = []
     made.say("extract", 1, 0)

@@ -67,6 +67,26 @@ gives 'answers are not asked' 0 '3 abd' --answers "$answers" --place 0 <"$unsign
 gives 'a place of a torn log' 1 '3 abc' --place 0 < <(frame abc && printf 12)
 gives 'a place of lines' 0 '1 b' --lines --place 1 < <(printf 'a\nb\nc\n')
 
+# The messages at the places of a file
+places=$scratch/places
+# at WHAT STATUS FRAMES PLACES ARG..: an extract by a file of these places.
+at() {
+    local what=$1 wanted=$2 frames=$3
+    printf %b "$4" >"$places"
+    shift 4
+    gives "by a file: $what" "$wanted" "$frames" --places "$places" "$@"
+}
+at 'one message' 0 '3 abd' '0\n' <"$unsigned"
+at 'places in any order, some twice' 0 '3 abd3 abc1 x' '6\n1\n0\n6\n1\n' <"$unsigned"
+at 'no place' 0 '' '' <"$unsigned"
+at 'no place of a torn log' 1 '' '' < <(frame abc && printf 12)
+at 'no place of an empty log' 0 '' '' </dev/null
+at 'a place of a torn log' 1 '3 abc' '0\n' < <(frame abc && printf 12)
+at 'a place of lines' 0 '1 b' '1\n' --lines < <(printf 'a\nb\nc\n')
+at 'places as lines' 0 $'abd\nx\n' '6\n0\n' --lines-out <"$unsigned"
+at 'a block, and answers are not asked' 0 "$(blocks | head -c 146)" '2\n' --answers "$answers" --pinned "$answers" <"$log"
+gives 'by a pipe' 0 '3 abd' --places <(echo 0) <"$unsigned"
+
 # As lines
 gives 'listed messages as lines' 0 "abc"$'\n'"$long"$'\n' --answers "$answers" --lines-out <"$log"
 gives 'unlisted messages as lines' 1 $'abd\n' --answers "$answers" --unlisted --lines-out < <(frame abd && cat -- "$log")
@@ -88,6 +108,7 @@ gives 'originals as lines' 0 $'abc\nx\n' --place 0 --place 5 --unwrap --lines-ou
 gives 'a wrap of nothing, as it stands' 0 "${#wrap} $wrap" --place 0 --unwrap < <(frame "$wrap")
 run inspect --unwrap < <(frame "$wrap")
 expect 'a wrap of nothing, inspected' 0 $'wrapped-unparsed 0 M1 0\nend 1' ''
+at 'originals' 0 "$(frame abc && frame x)" '5\n0\n' --unwrap <"$wraps"
 gives 'originals from lines' 0 $'abc\nx\n' --lines --place 0 --place 1 --unwrap --lines-out < <(printf '%sabc\nx\n' "$wrap")
 
 # Of a log of 40 MB only the messages at the places are held: the kernel gives the program no address space past 16 MiB.
@@ -136,6 +157,26 @@ for place in 10000000 4294967296 '' x 1.5; do
 done
 run extract --unlisted --place 0 <"$log"
 expect 'unlisted messages and a place' 2 '' "error: the argument '--unlisted' cannot be used with '--place <N>'"$'\n\n'"Usage: ssign extract [OPTIONS] < FILE"$'\n\n'"For more information, try '--help'."
+run extract --unlisted --places "$places" <"$log"
+expect 'unlisted messages and a file of places' 2 '' "error: the argument '--unlisted' cannot be used with '--places <FILE>'"$'\n\n'"Usage: ssign extract [OPTIONS] < FILE"$'\n\n'"For more information, try '--help'."
+run extract --place 0 --places "$places" <"$log"
+expect 'a place and a file of places' 2 '' "error: the argument '--place <N>' cannot be used with '--places <FILE>'"$'\n\n'"Usage: ssign extract [OPTIONS] < FILE"$'\n\n'"For more information, try '--help'."
+run extract --unlisted --place 0 --places "$places" <"$log"
+expect 'all three' 2 '' "error: the argument '--unlisted' cannot be used with '--place <N>'"$'\n\n'"Usage: ssign extract [OPTIONS] < FILE"$'\n\n'"For more information, try '--help'."
+run extract --places "$places" --places "$places" <"$log"
+expect 'two files of places' 2 '' 'SOME TEXT'
+printf '6\n3\n' >"$places"
+refused 'by a file: a message of two lines' 'ssign: E2 3' --places "$places" --lines-out <"$unsigned"
+printf '9999999\n0\n8\n7\n' >"$places"
+refused 'by a file: the lowest place past the last' 'ssign: E1 7' --places "$places" <"$unsigned"
+refused 'by a file: a bad log' 'ssign: F1 4' --places "$places" < <(printf '1 a1xx')
+printf '0\n10000000\n' >"$places"
+refused 'by a file: a bad line, refused before the answers and the log are read' 'ssign: N1 2' --places "$places" --answers / < <(printf x)
+refused 'by a file: a bad line, refused after the known payloads' 'ssign: A2' --places "$places" --pinned / < <(printf x)
+printf '0\n1' >"$places"
+refused 'by a file: a cut line' 'ssign: N3' --places "$places" < <(printf x)
+refused 'by a file: no such file' 'ssign: N2' --places "$scratch/no such file" < <(printf x)
+refused 'by a file: a folder' 'ssign: N2' --places / < <(printf x)
 list_commands extract
 for command in "${commands[@]}"; do
     needed=()
@@ -143,7 +184,7 @@ for command in "${commands[@]}"; do
     plan | sign) needed=(--payload '- N' --rsid 1) ;;
     explain) needed=(F1) ;;
     esac
-    options=(--unlisted --place=0 --lines-out --unwrap)
+    options=(--unlisted --place=0 --lines-out --unwrap --places=/dev/null)
     # an inspection takes wraps off too, and `sign` writes lines
     [[ $command == inspect ]] && unset 'options[3]'
     [[ $command == sign ]] && unset 'options[2]'

@@ -241,6 +241,9 @@ def main():
                       ["review", "--once"], ["extract", "--once"], ["inspect", "--once"], ["counters", "--once"],
                       ["questions", "--once=x"], ["questions", "--once", "--once"], ["inspect", "--pinned", os.devnull],
                       ["plan", "--pinned", os.devnull], ["carry", "--pinned", os.devnull],
+                      ["extract", "--facts", os.devnull], ["review", "--json", "--facts", os.devnull], ["inspect", "--facts", os.devnull],
+                      ["inspect", "--json", "--facts", os.devnull, "--facts", os.devnull], ["inspect", "--json", "--places", os.devnull],
+                      ["extract", "--places", os.devnull, "--places", os.devnull],
                       ["carry", "--json"], ["carry", "--findings"], ["explain", "--json", "--json"], ["explain", "--findings", "F1"],
                       ["explain", "--json=x", "F1"], ["inspect", "--json", "--json"]):
             ran = subprocess.run([PROGRAM, *words], input=log, capture_output=True, check=False)

@@ -153,6 +153,111 @@ expect 'an original as JSON, and a torn end' 1 '{"line":"wrapped-unparsed","plac
 {"line":"torn","offset":33}
 {"line":"end","count":1}' ''
 
+# ---- facts about messages
+
+# encoded TEXT: strict base64 of a text.
+encoded() {
+    printf %s "$1" | base64 -w 0
+}
+
+# shown WHAT STATUS PLACES WANTED ARG..: the objects of standard input, with the messages at these places shown.
+shown() {
+    local what=$1 wanted=$2 places=$3 objects=$4
+    shift 4
+    printf %s "$places" >"$scratch/places"
+    run inspect --json --facts "$scratch/places" "$@"
+    expect "facts: $what" "$wanted" "$objects" ''
+}
+names='"host":"h","app":"s","procid":"-","rsid":1,"sg":0,"spri":0'
+late='<13>1 2009-05-03T14:00:39.25-07:00 h a p m - [ssign'
+unsigned_certificate=${certificate/ SIGN=\"AAAA\"/}
+unsigned_signature=${signature/ SIGN=\"AAAA\"/}
+{ frame abc && frame "$late" && frame "$H$certificate" && frame "$H$signature" && frame "${H}[ssign]" && frame "${wrap}abc"; } >"$scratch/log"
+about() {
+    printf '%s\n' \
+        '{"line":"unparsed","place":0,"part":"M1","offset":0,"octets":3'"$1}" \
+        '{"line":"plain","place":1,"octets":51,"timestamp":"2009-05-03T14:00:39.25-07:00","marked":1'"$2}" \
+        "{\"line\":\"certificate\",\"place\":2,$names,\"total\":27,\"index\":1,\"length\":27,\"octets\":142,\"timestamp\":\"-\",\"marked\":1$3}" \
+        "{\"line\":\"signature\",\"place\":3,$names,\"gbc\":0,\"first\":1,\"count\":2,\"octets\":159,\"timestamp\":\"-\",\"marked\":1$4}" \
+        '{"line":"spoilt","place":4,"cause":"S2","octets":24,"timestamp":"-","marked":1'"$5}" \
+        '{"line":"plain","place":5,"octets":28,"timestamp":"-"'"$6}" '{"line":"end","count":6}'
+}
+shown 'no place' 0 '' "$(about '' '' '' '' '' '')" <"$scratch/log"
+# YWJj is abc
+shown 'a text that is no message' 0 $'0\n' "$(about ',"text":"YWJj"' '' '' '' '' '')" <"$scratch/log"
+shown 'places in any order, one twice, and some that the log has not' 0 $'9999999\n4\n1\n4\n6\n' \
+    "$(about '' ",\"text\":\"$(encoded "$late")\"" '' '' ",\"text\":\"$(encoded "${H}[ssign]")\"" '')" <"$scratch/log"
+# MjAw.. is 2009-05-03T14:00:39Z K S0VZ, and AAAA three zeros
+shown 'blocks' 0 $'3\n2\n' "$(about '' '' \
+    ",\"text\":\"$(encoded "$H$certificate")\",\"fragment\":\"MjAwOS0wNS0wM1QxNDowMDozOVogSyBTMFZa\",\"signed\":\"$(encoded "$H$unsigned_certificate")\",\"signature\":\"AAAA\"" \
+    ",\"text\":\"$(encoded "$H$signature")\",\"signed\":\"$(encoded "$H$unsigned_signature")\",\"signature\":\"AAAA\"" '' '')" <"$scratch/log"
+shown 'a wrap' 0 $'5\n' "$(about '' '' '' '' '' ",\"text\":\"$(encoded "${wrap}abc")\",\"original\":\"YWJj\"")" <"$scratch/log"
+shown 'the original of a wrap' 0 $'5\n' "$(about '' '' '' '' '' ",\"text\":\"$(encoded "${wrap}abc")\",\"original\":\"YWJj\"" |
+    sed 's/"plain","place":5/"wrapped-unparsed","place":5,"part":"M1","offset":0/')" --unwrap <"$scratch/log"
+shown 'a wrap of nothing' 0 $'0\n' "{\"line\":\"plain\",\"place\":0,\"octets\":25,\"timestamp\":\"-\",\"text\":\"$(encoded "$wrap")\",\"original\":\"\"}
+{\"line\":\"end\",\"count\":1}" < <(frame "$wrap")
+shown 'findings' 0 $'1\n5\n' "$(about '' '' '' '' '' '' | grep -v '"plain"')" --findings <"$scratch/log"
+shown 'an escaped fragment' 0 $'0\n' "{\"line\":\"certificate\",\"place\":0,$names,\"total\":4,\"index\":1,\"length\":4,\"octets\":120,\"timestamp\":\"-\",\"marked\":1,\"text\":\"$(
+    encoded "${H}[ssign-cert VER=\"0111\" RSID=\"1\" SG=\"0\" SPRI=\"0\" TPBL=\"4\" INDEX=\"1\" FLEN=\"4\" FRAG=\"\\\"\\]\\\\x\" SIGN=\"AQ==\"]"
+)\",\"fragment\":\"Il1ceA==\",\"signed\":\"$(
+    encoded "${H}[ssign-cert VER=\"0111\" RSID=\"1\" SG=\"0\" SPRI=\"0\" TPBL=\"4\" INDEX=\"1\" FLEN=\"4\" FRAG=\"\\\"\\]\\\\x\"]"
+)\",\"signature\":\"AQ==\"}
+{\"line\":\"end\",\"count\":1}" < <(frame "${H}[ssign-cert VER=\"0111\" RSID=\"1\" SG=\"0\" SPRI=\"0\" TPBL=\"4\" INDEX=\"1\" FLEN=\"4\" FRAG=\"\\\"\\]\\\\x\" SIGN=\"AQ==\"]")
+# A TIMESTAMP stands where the parts up to it are right, whatever fails after it
+shown 'faults before and after TIMESTAMP' 0 '' '{"line":"unparsed","place":0,"part":"M1","offset":0,"octets":16}
+{"line":"unparsed","place":1,"part":"M2","offset":4,"octets":15}
+{"line":"unparsed","place":2,"part":"M3","offset":6,"octets":34}
+{"line":"unparsed","place":3,"part":"M3","offset":6,"octets":7}
+{"line":"unparsed","place":4,"part":"M4","offset":8,"octets":8,"timestamp":"-"}
+{"line":"unparsed","place":5,"part":"M8","offset":36,"octets":37,"timestamp":"2024-02-29T23:59:59Z"}
+{"line":"unparsed","place":6,"part":"M9","offset":17,"octets":24,"timestamp":"-","marked":1}
+{"line":"end","count":7}' < <(frame '<192>1 - - - - -' && frame '<13>2 - - - - -' && frame '<13>1 2023-02-29T00:00:00Z - - - -' && frame '<13>1 -' &&
+    frame '<13>1 - ' && frame '<13>1 2024-02-29T23:59:59Z - - - - -x' && frame '<13>1 - - - - - [=[ssign')
+shown 'a torn end' 1 '' $'{"line":"unparsed","place":0,"part":"M1","offset":0,"octets":3}\n{"line":"torn","offset":5}\n{"line":"end","count":1}' < <(printf '3 abc3 ab')
+shown 'damage' 1 $'0\n' $'{"line":"plain","place":0,"octets":17,"timestamp":"-","text":"PDEzPjEgLSAtIC0gLSAtIC0="}\n{"line":"damaged","place":1,"offset":20,"length":3}\n{"line":"end","count":1}' \
+    --salvage < <(frame '<13>1 - - - - - -' && printf xxx)
+shown 'lines' 0 $'1\n' $'{"line":"unparsed","place":0,"part":"M1","offset":0,"octets":3}\n{"line":"unparsed","place":1,"part":"M1","offset":0,"octets":2,"text":"YWI="}\n{"line":"end","count":2}' --lines < <(printf 'abc\nab\n')
+# the first 16384 octets of a message and of what is in a wrap
+long=$(printf '%16384s' '' | tr ' ' a)
+shown 'long texts' 0 $'0\n1\n2\n' "{\"line\":\"unparsed\",\"place\":0,\"part\":\"M1\",\"offset\":0,\"octets\":16384,\"text\":\"$(encoded "$long")\"}
+{\"line\":\"unparsed\",\"place\":1,\"part\":\"M1\",\"offset\":0,\"octets\":16385,\"text\":\"$(encoded "$long")\"}
+{\"line\":\"plain\",\"place\":2,\"octets\":16410,\"timestamp\":\"-\",\"text\":\"$(encoded "$wrap${long:25}")\",\"original\":\"$(encoded "$long")\"}
+{\"line\":\"end\",\"count\":3}" < <(frame "$long" && frame "${long}b" && frame "$wrap${long}b")
+run inspect --json --facts <(printf '0\n') < <(frame abc)
+expect 'facts: a pipe of places' 0 $'{"line":"unparsed","place":0,"part":"M1","offset":0,"octets":3,"text":"YWJj"}\n{"line":"end","count":1}' ''
+
+# no_places WHAT PLACES CODE: a file of places that is refused, before a log that is none.
+no_places() {
+    printf %b "$2" >"$scratch/places"
+    run inspect --json --facts "$scratch/places" < <(printf x)
+    expect "facts: $1" 2 '' "ssign: $3"
+}
+no_places 'an empty line' '\n' 'N1 1'
+no_places 'the first bad line' '0\n9999999\n10000000\nx\n' 'N1 3'
+no_places 'a leading zero' '00\n' 'N1 1'
+no_places 'a sign' '+1\n' 'N1 1'
+no_places 'a number below zero' '-1\n' 'N1 1'
+no_places 'a CR' '1\n1\r\n' 'N1 2'
+no_places 'a space' '1 \n' 'N1 1'
+no_places 'a NUL' '\0\n' 'N1 1'
+no_places 'two places on a line' '1 2\n' 'N1 1'
+no_places 'no last line end' '1\n2' 'N3'
+no_places 'no line end at all' 'x' 'N3'
+no_places 'a bad line before a cut one' 'x\n1' 'N1 1'
+run inspect --json --facts "$scratch/no such file" < <(printf x)
+expect 'facts: no such file' 2 '' 'ssign: N2'
+run inspect --json --facts / < <(printf x)
+expect 'facts: a folder' 2 '' 'ssign: N2'
+run inspect --json --facts - < <(printf x)
+expect 'facts: a hyphen is the name of a file' 2 '' 'ssign: N2'
+no_places 'a bad log after good places' '1\n' 'F1 0'
+for words in '' --findings --unwrap; do
+    # shellcheck disable=SC2086 # none, or one word
+    run inspect --facts "$scratch/places" $words < <(printf x)
+    expect "facts: without --json $words" 2 '' "error: the argument '--facts <FILE>' cannot be used without '--json'"$'\n\n'"Usage: ssign inspect [OPTIONS] < FILE"$'\n\n'"For more information, try '--help'."
+done
+holds 'facts about messages by a seed' python3 -B "$root/tests/facts.py" "$program"
+
 # Lines, limits and refusals, as in a review
 run inspect --lines < <(printf '%s\n' abc "$H$certificate" 'ab')
 expect 'lines' 0 $'unparsed 0 M1 0\ncertificate 1 h s - 1 0 0 27 1 27\nunparsed 2 M1 0\nend 3' ''

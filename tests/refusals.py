@@ -41,11 +41,11 @@ HERE = os.path.dirname(os.path.abspath(__file__))
 CODES = {
     "review": "(W2 )+(C4 )*(A4 )*((F4|V1|W2) )*",
     "asked": "(W2 )+(C4 )*(A4 )*((F4|V1) )*(W2 )*(V1 )*(A4 )*((V1|W2) )*",
-    "extract": "(W2 )+(A4 )*((F4|V1|W2) )*",
+    "extract": "(W2 )+(N4 )*(A4 )*((F4|V1|W2) )*",
     "carry": "(W2 )+(A4 )*((F4|V1|W2) )*",
     "counters": "(W2 )+(A4 )*((F4|V1|W2) )*",
     "questions": "(W2 )*(A4 )*((F4|V1|W2) )*",
-    "inspect": "(W2 )*((F4|W2) )*",
+    "inspect": "(W2 )*(N4 )*((F4|W2) )*",
     "plan": "(W2 )*(C4 )*((F4|O10|W2) )*((F4|O10 p|W2) )*((O10|W2) )*",
     "sign": "(W2 )*(C4 )*(A4 )*((F4|O10|W2) )*((F4|O10 p|W2) )*((O10|W2) )*",
     "explain": "(W2 )*",
@@ -59,9 +59,10 @@ WORDS_ALONE = 80
 BUFFER = 65536
 
 # `wanted` is all that a run says, or its status; `some` is whether some allocations are refused alone; `counters` are those up
-# to which a log is reviewed, and those at which an originator goes on; `first` are those at which a night begins
-Case = collections.namedtuple("Case", "name words log wanted answers some counters first pinned",
-                              defaults=[None, False, None, None, None])
+# to which a log is reviewed, and those at which an originator goes on; `first` are those at which a night begins; `places` are
+# those of an extract, or of the messages that an inspection shows
+Case = collections.namedtuple("Case", "name words log wanted answers some counters first pinned places",
+                              defaults=[None, False, None, None, None, None])
 Said = collections.namedtuple("Said", "status out err")
 
 passed = failed = 0
@@ -307,6 +308,15 @@ def extracts():
         places = [it for place in (5, 0, 2, 5, 0) for it in ("--place", str(place))]
         yield Case("extract of places %s" % name, ["extract", *places, *words], octets, Said(0, unit(M1) + unit(C) + unit(b"nobody"), b""))
         yield Case("extract of a place past the end %s" % name, ["extract", *places, "--place", "6", *words], octets, refused("E1 6"))
+        given = b"5\n0\n2\n5\n0\n"
+        yield Case("extract of the places of a file %s" % name, ["extract", *words], octets,
+                   Said(0, unit(M1) + unit(C) + unit(b"nobody"), b""), places=given)
+        yield Case("extract of the places of a file past the end %s" % name, ["extract", *words], octets, refused("E1 6"), text,
+                   places=given + b"6\n")
+    yield Case("extract of no place", ["extract"], octets, Said(0, b"", b""), places=b"")
+    yield Case("extract of a bad place, and a bad line of the answers", ["extract"], octets, refused("N1 2"), b"want\n", places=b"0\nx\n")
+    yield Case("extract of a cut place", ["extract"], octets, refused("N3"), places=b"0\n1")
+    yield Case("extract of the places of a folder", ["extract", "--places", HERE], octets, refused("N2"), b"want\n")
     octets += frame(b"a\nb")
     yield Case("extract of a message with LF as a line", ["extract", "--unlisted", "--lines-out"], octets, refused("E2 6"), text)
     yield Case("extract of its place as a line", ["extract", "--place", "6", "--lines-out"], octets, refused("E2 6"))
@@ -343,6 +353,15 @@ def inspections():
     wraps = [b"<13>1 - h s - wrapped - |" + it for it in (b"a", b"<13>1 - - - - - -", b"<13>1 - - - - - [ssign]")]
     yield Case("inspect of wraps", ["inspect", "--unwrap"], b"".join(map(frame, wraps)),
                Said(0, b"wrapped-unparsed 0 M1 0\nwrapped-plain 1\nwrapped-spoilt 2 S2\nend 3\n", b""))
+    shown = (b'{"line":"plain","place":0,"octets":26,"timestamp":"-","text":"%s","original":"YQ=="}\n'
+             % base64.b64encode(wraps[0]))
+    rest = [b'{"line":"plain","place":1,"octets":42,"timestamp":"-"}\n', b'{"line":"plain","place":2,"octets":48,"timestamp":"-","marked":1}\n']
+    yield Case("facts about wraps", ["inspect", "--json"], b"".join(map(frame, wraps)),
+               Said(0, shown + b"".join(rest) + b'{"line":"end","count":3}\n', b""), places=b"9\n0\n")
+    yield Case("facts about everything", ["inspect", "--json", "--unwrap"], b"".join(map(frame, [*EVERYTHING, *wraps])), 0,
+               places=b"".join(b"%d\n" % it for it in range(len(EVERYTHING) + 3)))
+    yield Case("facts: a bad place", ["inspect", "--json"], b"x", refused("N1 1"), places=b"\n")
+    yield Case("facts: a folder", ["inspect", "--json", "--facts", HERE], b"x", refused("N2"))
     yield Case("inspect of a long line", ["inspect", "--lines", "--max-len", "3"], b"abc\nabcd\n", refused("F2 7"))
 
 
@@ -539,7 +558,7 @@ def fault_of_reading(kind, words, log, codes):
     reading, reviewing = codes.count("F4"), codes.count("V1")
     if not min(len(sizes), 1) <= reading <= most + is_torn + others:
         return "F4 comes %d times, but there are %d messages that need room" % (reading, most + is_torn + others)
-    reviews = kind in REUSE or kind == "carry" or (kind == "extract" and "--place" not in words)
+    reviews = kind in REUSE or kind == "carry" or (kind == "extract" and not {"--place", "--places"} & set(words))
     return "V1 comes %d times" % reviewing if sizes and reviews != (reviewing > 0) else ""
 
 
@@ -573,10 +592,10 @@ class Runner:
 
     def case(self, place, case, first):
         """Faults, the codes, and how often the run did without memory; `first` is the first allocation to refuse."""
-        log, answers, counters, first_ones, pinned = (os.path.join(self.folder, "%d.%s" % (place, end))
-                                                      for end in ("log", "answers", "counters", "first", "pinned"))
+        log, answers, counters, first_ones, pinned, places = (os.path.join(self.folder, "%d.%s" % (place, end))
+                                                              for end in ("log", "answers", "counters", "first", "pinned", "places"))
         for path, octets in ((log, case.log), (answers, case.answers), (counters, case.counters), (first_ones, case.first),
-                             (pinned, case.pinned)):
+                             (pinned, case.pinned), (places, case.places)):
             if octets is not None:
                 with open(path, "wb") as file:
                     file.write(octets)
@@ -585,6 +604,7 @@ class Runner:
         words += [] if case.counters is None else [option, counters]
         words += [] if case.first is None else ["--from", first_ones]
         words += [] if case.pinned is None else ["--pinned", pinned]
+        words += [] if case.places is None else ["--places" if case.words[0] == "extract" else "--facts", places]
         clean, count = self.run(words, log, 0)
         wanted = clean._replace(status=case.wanted) if isinstance(case.wanted, int) else case.wanted
         faults = ["" if clean == wanted else "it says %r, and not %r" % (clean, wanted)]
@@ -601,14 +621,14 @@ class Runner:
             if said == clean and (number == count + 1 or clean.status == 2 or kind in DO_WITHOUT):
                 without += number <= count
                 faults.append("" if number <= count or asked == count else "it asks for %d allocations" % asked)
-            elif number <= count and said == refused(code) and re.fullmatch(r"F4|A4|C4|V1|W2|O10( \d+)?", code):
+            elif number <= count and said == refused(code) and re.fullmatch(r"F4|A4|C4|N4|V1|W2|O10( \d+)?", code):
                 codes.append(code)
                 faults.append("")
             else:
                 faults.append("allocation %d of %d: %r" % (number, count, said))
         faults.append(fault_of_order(kind, codes))
         if kind != "explain" and clean.status != 2 and not case.some:
-            faults.append(fault_of_reading(kind, case.words, case.log, codes))
+            faults.append(fault_of_reading(kind, words, case.log, codes))
         return faults, codes, without
 
 
@@ -623,7 +643,7 @@ def firsts(cases):
     """The first allocation to refuse of each case."""
     seen = set()
     for case in cases:
-        words = (*case.words, case.answers is None, case.counters is None, case.first is None, case.pinned is None)
+        words = (*case.words, case.answers is None, case.counters is None, case.first is None, case.pinned is None, case.places is None)
         yield WORDS_ALONE if words in seen else 1
         seen.add(words)
 

@@ -33,13 +33,16 @@ HAS_KEYS = importlib.util.find_spec("cryptography") is not None
 HAS_OPENSSL = shutil.which("openssl") is not None
 Path = Tuple[Any, ...]
 # how many command lines there are, by what they need beside those in front
-LINES = {"jsonschema": 32, "cryptography": 46, "openssl": 6}
+LINES = {"jsonschema": 35, "cryptography": 46, "openssl": 6}
 # without these keys an object is one of another run, and so is an `end` without its count
 MAY_LACK = {"from", "missing_up_to_counters", "missing_blocks", "left_out", "stamped"}
+# an object of a line with facts may lack these, because they aren't true of its message, or its place isn't named
+MAY_LACK_FACTS = {("plain", "marked"), ("plain", "original"), ("unparsed", "marked"), ("unparsed", "text"), ("spoilt", "text"),
+                  ("wrapped-plain", "marked"), ("wrapped-unparsed", "marked")}
 # the tables of these sections of docs/dev/FORMATS.md have lines of `ssign`: a word, and its fields in capitals
 LINE_TABLES = ("A report", "A tally", "Counters", "An inspection")
 # those of these have kinds of objects: what `line` has, and the other keys
-KEY_TABLES = {"Other lines as JSON": REPORT, "A verdict as JSON": VERDICT, "Nights as JSON": VERDICT}
+KEY_TABLES = {"Facts about messages": REPORT, "Other lines as JSON": REPORT, "A verdict as JSON": VERDICT, "Nights as JSON": VERDICT}
 # these have kinds of objects in a sentence, as "`line` is `explanation`, and `table`, `code` and `text` follow"
 SENTENCES = {"Other lines as JSON": REPORT, "A manifest": VERDICT}
 # these lines of an inspection are of no message, and so never of a wrap
@@ -158,7 +161,8 @@ def with_less(sample: Dict[str, Any]) -> Iterator[Tuple[str, Dict[str, Any]]]:
     """A sample with a key too few. What the counts of states have is no key of an object."""
     for path in places(sample):
         is_named = isinstance(path[-1], str) and path[:-1] != ("sessions",)
-        if is_named and path[-1] not in MAY_LACK and not (sample.get("line") == "end" and path == ("count",)):
+        may_lack = path[-1] in MAY_LACK or (sample.get("line"), path[-1]) in MAY_LACK_FACTS
+        if is_named and not may_lack and not (sample.get("line") == "end" and path == ("count",)):
             planted = copy.deepcopy(sample)
             del at(planted, path[:-1])[path[-1]]
             yield f"no {path}", planted

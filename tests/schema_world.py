@@ -22,6 +22,7 @@ KEYS = os.path.join(ROOT, "tools", "ssign-keys")
 EXAMPLES = os.path.join(ROOT, "examples")
 TEN = os.path.join(EXAMPLES, "signed", "ten-messages.log")
 PAYLOAD = "2009-05-03T14:00:39Z K S0VZ"
+WRAP = b"<13>1 - h s - wrapped - |"
 REPORT, VERDICT, CHECK = "report", "verdict", "check"
 
 
@@ -162,9 +163,17 @@ def damaged_logs(logs: Logs) -> Iterator[Case]:
     second = logs.put("second", b"count h s - 1 2\ncount h s - 1 0 0 5\ncount other s - 9 2\nend 3\n")
     yield Case(REPORT, [*review, "--from", first, "--counters", second, *given], logs.path("whole"), 1,
                "early beyond blocks session")
-    wraps = [b"<13>1 - h s - wrapped - |" + it for it in read_frames(read(os.path.join(EXAMPLES, "kinds.frames")))[0]]
+    wraps = [WRAP + it for it in read_frames(read(os.path.join(EXAMPLES, "kinds.frames")))[0]]
     yield Case(REPORT, ["inspect", "--json", "--unwrap"], logs.put("wraps", joined(wraps)), 0,
                "wrapped-plain wrapped-unparsed wrapped-signature wrapped-certificate wrapped-spoilt")
+    places = logs.put("places", b"".join(b"%d\n" % it for it in range(99)))
+    marked = [b"<13>1 - h s - - - [ssign", b"<13>1 - h s - - - \xef\xbb\xbf\xff [ssign"]
+    kinds = [*marked, *(WRAP + it for it in marked), *read_frames(read(os.path.join(EXAMPLES, "kinds.frames")))[0], *wraps]
+    facts, log = ["inspect", "--json", "--facts"], logs.put("kinds", joined(kinds))
+    words = ("plain", "unparsed", "signature", "certificate", "spoilt")
+    yield Case(REPORT, [*facts, places], log, 0, " ".join(f"{it}-with-facts" for it in words))
+    yield Case(REPORT, [*facts, os.devnull], log, 0, " ".join(f"{it}-with-facts" for it in words))
+    yield Case(REPORT, [*facts, places, "--unwrap"], log, 0, " ".join(f"wrapped-{it}-with-facts" for it in words))
 
 
 def odd_sessions(logs: Logs) -> Iterator[Case]:

@@ -150,6 +150,14 @@ refused 'counters: a line that is no known payload' 'A1 1' "The file of known pa
     counters --pinned "$scratch/answers" --answers /
 refused 'a folder of known payloads' 'A2' 'The file of known payloads is --pinned "/".' questions --pinned /
 
+# ---- the places files
+printf '0\n00\n' >"$scratch/places"
+refused 'extract: a line that is no place' 'N1 2' "The places file is --places \"$scratch/places\"." extract --places "$scratch/places"
+refused 'inspect: a line that is no place' 'N1 2' "The places file is --facts \"$scratch/places\"." inspect --json --facts "$scratch/places"
+printf '0\n1' >"$scratch/places"
+refused 'a cut line of places' 'N3' "The places file is --places \"$scratch/places\"." extract --places "$scratch/places" --answers /
+refused 'a folder of places' 'N2' 'The places file is --facts "/".' inspect --json --facts /
+
 # ---- the file of the questions, and the answers after them
 refused 'no file for the questions' 'Q1' 'The file of the questions is --ask "/".' review --ask / --answers /
 refused 'a folder of answers after the questions' 'A2' 'The answers file is --answers "/".' \

@@ -14,3 +14,4 @@ pub mod KnownSoFar
 pub mod MarksSoFar
 pub mod OnceTexts
 pub mod Records
+pub mod MarksFound

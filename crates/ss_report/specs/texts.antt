@@ -1,4 +1,5 @@
 pub mod Ending
+pub mod Facts
 pub mod Inspection
 pub mod Asked
 pub mod QuestionText
@@ -7,3 +8,4 @@ pub mod KnownPayloads
 pub mod QuestionsOnce
 pub mod QuestionForms
 pub mod OnceLaws
+pub mod FactLaws

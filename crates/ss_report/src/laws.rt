@@ -1,6 +1,7 @@
 //! Laws on what is written about any log.
 ghost use Rattle.ss_report.specs.VerdictLaws.{VerdictsAreOfReports};
 ghost use Rattle.ss_report.specs.runs.CounterLaws.{CountersAreTheLogs};
+ghost use Rattle.ss_report.specs.texts.FactLaws.{MarksAreFound};
 ghost use Rattle.ss_report.specs.texts.OnceLaws.{QuestionsOnceAskTheSame};
 
 /// In plain notation, the counters of a log are written as the lines of the counters that the log itself gives. Each
@@ -19,4 +20,9 @@ pub fn verdicts_are_of_reports()
 /// puts the payload in place of each index has the questions themselves, in their order.
 pub fn questions_once_ask_the_same()
     ensures { QuestionsOnceAskTheSame }
+{}
+
+/// The line of a message is marked exactly where `[ssign` stands in the message.
+pub fn marks_are_found()
+    ensures { MarksAreFound }
 {}

@@ -1,15 +1,18 @@
 -- How commands over a log end where nothing is asked of it, and where a review writes its questions to a file.
-use Rattle.std.proofs.Common.{◌≡◌, ◌≢◌, ℕ, List, Option, Some, None, Result, Ok, Err, subst, inl, inr, refl, ap}
+use Rattle.std.proofs.Common.{◌≡◌, ◌≢◌, ℕ, Bool, true, false, not, ◌&&◌, List, Option, Some, None, Result, Ok, Err, subst, inl, inr, refl, ap}
 use Rattle.clap.specs.declared.parser.matches.ArgMatches.{ArgMatches}
 use Rattle.ss_frame.specs.Watched.{Source, Sink}
+use Rattle.ss_report.specs.declared.log.read_options.ReadOptions.{ReadOptions}
+use Rattle.ss_report.specs.declared.runs.extraction.Extraction as extractions
 use Rattle.ss_report.specs.declared.verdict.verdict.Verdict.{Verdict}
 use Rattle.ssign.specs.AskOrder.{EndsAsking, EndsBy}
 use Rattle.ssign.specs.GivenFiles.{Contents, Files}
-use Rattle.ssign.specs.LogOrder.{EndsAtOnce, IsUnasked}
+use Rattle.ssign.specs.LogOrder.{EndsAtOnce, HaveFailed, HaveNamed, HaveSaid, IsUnasked}
 use Rattle.ssign.specs.declared.refusal.Refusal.{Refusal}
 use Rattle.ssign.specs.declared.refusal.Refusal.TheVariants.{NoOption, SalvagedLines, UnansweredAsk, Extraction, From, Counters}
 use Rattle.ssign.specs.declared.refusal.Refusal.TheVariants.{Pinned, Answers, Settings, Resume, Start, Run, Questions}
 use Rattle.ssign.specs.declared.refusal.Refusal.TheVariants.{LateAnswers, LateRun, Signing, NoCode, NoEntry}
+use Rattle.ssign.specs.declared.refusal.Refusal.TheVariants.{PlainFacts, Facts, Places}
 use Rattle.ssign.specs.declared.task.Task.{Task}
 use Rattle.ssign.specs.declared.task.Task.TheVariants.{Review}
 
@@ -20,9 +23,12 @@ unasked_at_once files m task before after was is NoOption why = why
 unasked_at_once files m task before after was is (SalvagedLines asked) why = why
 unasked_at_once files m task before after was is UnansweredAsk why = why
 unasked_at_once files m task before after was is (Extraction fault) why = why
+unasked_at_once files m task before after was is PlainFacts why = why
 unasked_at_once files m task before after was is (From fault) why = why
 unasked_at_once files m task before after was is (Counters fault) why = why
 unasked_at_once files m task before after was is (Pinned fault) why = why
+unasked_at_once files m task before after was is (Facts fault) why = why
+unasked_at_once files m task before after was is (Places fault) why = why
 unasked_at_once files m task before after was is (Answers fault) why = absurd why
 unasked_at_once files m task before after was is (Settings fault) why = why
 unasked_at_once files m task before after was is (Resume fault) why = why
@@ -42,9 +48,12 @@ unasked_asking path given old new m before after was is NoOption why = why
 unasked_asking path given old new m before after was is (SalvagedLines asked) why = why
 unasked_asking path given old new m before after was is UnansweredAsk why = why
 unasked_asking path given old new m before after was is (Extraction fault) why = why
+unasked_asking path given old new m before after was is PlainFacts why = why
 unasked_asking path given old new m before after was is (From fault) why = why
 unasked_asking path given old new m before after was is (Counters fault) why = why
 unasked_asking path given old new m before after was is (Pinned fault) why = why
+unasked_asking path given old new m before after was is (Facts fault) why = why
+unasked_asking path given old new m before after was is (Places fault) why = why
 unasked_asking path given old new m before after was is (Answers fault) why = why
 unasked_asking path given old new m before after was is (Settings fault) why = why
 unasked_asking path given old new m before after was is (Resume fault) why = why
@@ -56,6 +65,51 @@ unasked_asking path given old new m before after was is (LateRun fault) why = ab
 unasked_asking path given old new m before after was is (Signing fault) why = why
 unasked_asking path given old new m before after was is NoEntry why = why
 unasked_asking path given old new m before after was is NoCode why = why
+
+-- the options by themselves ask nothing
+pub failed_unasked : (files : Contents) (m : ArgMatches) (task : Task) (refusal : Refusal)
+    → HaveFailed m task refusal → IsUnasked files m task refusal
+failed_unasked files m task NoOption why = why
+failed_unasked files m task (SalvagedLines asked) why = why
+failed_unasked files m task UnansweredAsk why = absurd why
+failed_unasked files m task (Extraction fault) why = why
+failed_unasked files m task PlainFacts why = why
+failed_unasked files m task (From fault) why = absurd why
+failed_unasked files m task (Counters fault) why = absurd why
+failed_unasked files m task (Pinned fault) why = absurd why
+failed_unasked files m task (Facts fault) why = absurd why
+failed_unasked files m task (Places fault) why = absurd why
+failed_unasked files m task (Answers fault) why = absurd why
+failed_unasked files m task (Settings fault) why = absurd why
+failed_unasked files m task (Resume fault) why = absurd why
+failed_unasked files m task (Start fault) why = absurd why
+failed_unasked files m task (Run fault) why = absurd why
+failed_unasked files m task (Questions fault) why = absurd why
+failed_unasked files m task (LateAnswers fault) why = absurd why
+failed_unasked files m task (LateRun fault) why = absurd why
+failed_unasked files m task (Signing fault) why = absurd why
+failed_unasked files m task NoEntry why = absurd why
+failed_unasked files m task NoCode why = absurd why
+
+-- they say what is asked
+pub have_said : (m : ArgMatches) (r : ReadOptions) (e : extractions.Extraction) → HaveNamed m r e → HaveSaid m
+have_said m r e named = record {
+  reading = (r, named.reading);
+  extraction = (e, named.extraction);
+  objects = named.objects;
+}
+
+-- ---- facts as JSON objects alone
+
+pub plain_of : (facts json told : Bool) → told ≡ (facts && not json) → told ≡ true → (facts ≡ true) × (json ≡ false)
+plain_of true false told is holds = (refl, refl)
+plain_of true true told is holds = cc
+plain_of false json told is holds = cc
+
+pub objects_of : (facts json told : Bool) → told ≡ (facts && not json) → told ≡ false → facts ≡ true → json ≡ true
+objects_of true true told is fails given = refl
+objects_of true false told is fails given = cc
+objects_of false json told is fails given = cc
 
 -- ---- by the paths of the options
 

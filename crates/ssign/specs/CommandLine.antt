@@ -132,11 +132,12 @@ own_rules (Log Review) =
 own_rules (Log Questions) =
     flag_rule (codes "json") ∷ flag_rule (codes "once") ∷ text_rule (codes "pinned") ∷ flag_rule (codes "salvage") ∷ []
 own_rules (Log Extract) =
-    text_rule (codes "answers") ∷ flag_rule (codes "unlisted") ∷ place_rule ∷ flag_rule (codes "lines-out")
-    ∷ flag_rule (codes "unwrap") ∷ text_rule (codes "pinned") ∷ flag_rule (codes "salvage") ∷ []
+    text_rule (codes "answers") ∷ flag_rule (codes "unlisted") ∷ place_rule ∷ text_rule (codes "places")
+    ∷ flag_rule (codes "lines-out") ∷ flag_rule (codes "unwrap") ∷ text_rule (codes "pinned")
+    ∷ flag_rule (codes "salvage") ∷ []
 own_rules (Log Inspect) =
-    flag_rule (codes "findings") ∷ flag_rule (codes "json") ∷ flag_rule (codes "unwrap") ∷ flag_rule (codes "salvage")
-    ∷ []
+    flag_rule (codes "findings") ∷ flag_rule (codes "json") ∷ text_rule (codes "facts") ∷ flag_rule (codes "unwrap")
+    ∷ flag_rule (codes "salvage") ∷ []
 own_rules (Log Counters) =
     text_rule (codes "answers") ∷ flag_rule (codes "json") ∷ text_rule (codes "pinned") ∷ flag_rule (codes "salvage")
     ∷ []

@@ -5,13 +5,17 @@ use Rattle.ss_review.specs.declared.counted.counter.Counter.{Counter}
 use Rattle.ss_answers.specs.Answers.{Answer}
 use Rattle.ss_answers.specs.AnswerInput.{AreOfFile, ArePayloadsOfFile, IsFileFault}
 use Rattle.ss_answers.specs.CounterInput.{AreCountersOfFile, IsCountersFileFault}
+use Rattle.ss_answers.specs.PlaceInput.{ArePlacesOfFile, IsPlacesFileFault}
 use Rattle.ss_answers.specs.declared.fault.AnswerFault.{AnswerFault}
 use Rattle.ss_answers.specs.declared.counters.fault.CounterFault.{CounterFault}
+use Rattle.ss_answers.specs.declared.places.fault.PlaceFault.{PlaceFault}
 
--- what the file of each path may give as a file of counters, of known payloads and of answers, or why it gives none
+-- what the file of each path may give as a file of counters, of known payloads, of places and of answers, or why it gives
+-- none
 pub record Contents : Type 1 where
   pub counters : List ℕ → Result (List Counter) CounterFault → Type 0
   pub payloads : List ℕ → Result (List (List ℕ)) AnswerFault → Type 0
+  pub places : List ℕ → Result (List ℕ) PlaceFault → Type 0
   pub answers : List ℕ → Result (List Answer) AnswerFault → Type 0
 
 -- what comes of an option of a file: nothing if it isn't given, and else what the file gives
@@ -28,6 +32,7 @@ abbrev pub of_system : Contents
 of_system = record {
   counters = λ path result. MatchResult result AreCountersOfFile IsCountersFileFault;
   payloads = λ path result. MatchResult result ArePayloadsOfFile IsFileFault;
+  places = λ path result. MatchResult result ArePlacesOfFile IsPlacesFileFault;
   answers = λ path result. MatchResult result AreOfFile IsFileFault;
 }
 

@@ -12,7 +12,7 @@ use Rattle.ss_report.specs.declared.verdict.verdict.Verdict.{Verdict}
 use Rattle.ss_report.specs.runs.Run.{Job, Runs, Stops}
 use Rattle.ss_answers.specs.Answers.{Answer, Rise, trusted, valid}
 use Rattle.ssign.specs.CommandLine.{HasNumber, detail_of, form_of, is_given, reporting}
-use Rattle.ssign.specs.Extraction.{GivesExtraction, texts_given}
+use Rattle.ssign.specs.Extraction.{GivesExtraction, IsAt, texts_given}
 use Rattle.ssign.specs.GivenFiles.{Contents, Gives}
 use Rattle.ssign.specs.Task.{job_of}
 use Rattle.ssign.specs.declared.extraction.ExtractionFault.{ExtractionFault}
@@ -45,10 +45,18 @@ pub record IsReading (m : ArgMatches) (r : ReadOptions) : Type 0 where
 abbrev pub AreSalvagedLines : ArgMatches → Type 0
 AreSalvagedLines m = (is_given m (codes "salvage") ≡ true) × (is_given m (codes "lines") ≡ true)
 
--- what is to be extracted, or why the options don't name it
+-- what is to be extracted but for the places of a file, or why the options don't name it
 abbrev pub IsExtraction : ArgMatches → Result Extraction ExtractionFault → Type 0
 IsExtraction m result = GivesExtraction (is_given m (codes "unlisted")) (texts_given m (codes "place"))
-    (is_given m (codes "lines-out")) (is_given m (codes "unwrap")) result
+    (is_some (path_in m (codes "places"))) (is_given m (codes "lines-out")) (is_given m (codes "unwrap")) result
+
+-- messages are shown as JSON objects alone: `--facts` isn't given without `--json`
+abbrev pub AreObjects : ArgMatches → Type 0
+AreObjects m = is_some (path_in m (codes "facts")) ≡ true → is_given m (codes "json") ≡ true
+
+-- `--facts` is given without `--json`
+abbrev pub ArePlainFacts : ArgMatches → Type 0
+ArePlainFacts m = (is_some (path_in m (codes "facts")) ≡ true) × (is_given m (codes "json") ≡ false)
 
 -- how a log is reported
 abbrev pub IsReporting : ArgMatches → Reporting → Type 0
@@ -59,16 +67,26 @@ IsReporting m r = r ≡ reporting (is_given m (codes "findings")) (is_given m (c
 
 -- ---- what is asked
 
+-- what the options name is extracted, or the messages at the places of the file of `--places`
+pub record IsExtracted (files : Contents) (m : ArgMatches) (e : Extraction) : Type 0 where
+  pub named : Extraction
+  pub places : Option (List ℕ)
+  pub is_named : IsExtraction m (Ok named)
+  pub given : Gives files.places (path_in m (codes "places")) (Ok places)
+  pub is_at : IsAt places named e
+
 -- The options say what is asked of a log beside the task, and the files that they name give it. The payloads that are
 -- known beforehand rise by their octets.
 pub record IsAsked (files : Contents) (m : ArgMatches) (a : Asked) : Type 0 where
   pub reading : IsReading m a.reading
-  pub extraction : IsExtraction m (Ok a.extraction)
+  pub extraction : IsExtracted files m a.extraction
+  pub objects : AreObjects m
   pub reporting : IsReporting m a.reporting
   pub first : Gives files.counters (path_in m (codes "from")) (Ok a.first)
   pub counters : Gives files.counters (path_in m (codes "counters")) (Ok a.counters)
   pub known : Gives files.payloads (path_in m (codes "pinned")) (Ok a.known)
   pub known_rise : IfSome a.known Rise
+  pub facts : Gives files.places (path_in m (codes "facts")) (Ok a.facts)
 
 -- the answers are those of the file of `--answers`, if it is given
 abbrev pub AreAnswers : Contents → ArgMatches → Option (List Answer) → Type 0
@@ -80,7 +98,7 @@ said_by (Some given) = record { trusted = trusted given; valid = valid given }
 said_by None = record { trusted = λ payload. false; valid = λ payload octets signature. false }
 
 abbrev pub asked_job : Task → Asked → Option (List Answer) → Job
-asked_job task a answers = job_of (said_by answers) a.reporting a.known a.first a.counters a.extraction task
+asked_job task a answers = job_of (said_by answers) a.reporting a.known a.first a.counters a.facts a.extraction task
 
 -- ---- how it ends
 
@@ -97,24 +115,55 @@ HasExtraction m = (e : Extraction) × IsExtraction m (Ok e)
 abbrev pub IsTaken : {T E : Type 0} → (List ℕ → Result T E → Type 0) → Option (List ℕ) → Type 0
 IsTaken {T} contents path = (value : Option T) × Gives contents path (Ok value)
 
--- Why there is no run. Options are read first, and then the files of `--from`, `--counters`, `--pinned` and `--answers`,
--- in this order: the first that gives nothing is the refusal.
+-- the options by themselves say what is asked
+pub record HaveSaid (m : ArgMatches) : Type 0 where
+  pub reading : HasReading m
+  pub extraction : HasExtraction m
+  pub objects : AreObjects m
+
+-- the files of counters and of known payloads, of those that are named, give some
+pub record HaveKnown (files : Contents) (m : ArgMatches) : Type 0 where
+  pub first : IsTaken files.counters (path_in m (codes "from"))
+  pub counters : IsTaken files.counters (path_in m (codes "counters"))
+  pub known : IsTaken files.payloads (path_in m (codes "pinned"))
+
+-- Why there is no run. Options are read first, and then the files of `--from`, `--counters`, `--pinned`, `--facts`,
+-- `--places` and `--answers`, in this order: the first that gives nothing is the refusal.
 abbrev pub IsFirstRefusal : Contents → ArgMatches → Refusal → Type 0
 IsFirstRefusal files m refusals.NoOption = GivesLimits m None
 IsFirstRefusal files m (refusals.Extraction fault) = HasReading m × IsExtraction m (Err fault)
+IsFirstRefusal files m refusals.PlainFacts = HasReading m × HasExtraction m × ArePlainFacts m
 IsFirstRefusal files m (refusals.From fault) =
-    HasReading m × HasExtraction m × Gives files.counters (path_in m (codes "from")) (Err fault)
+    HaveSaid m × Gives files.counters (path_in m (codes "from")) (Err fault)
 IsFirstRefusal files m (refusals.Counters fault) =
-    HasReading m × HasExtraction m × IsTaken files.counters (path_in m (codes "from"))
+    HaveSaid m × IsTaken files.counters (path_in m (codes "from"))
     × Gives files.counters (path_in m (codes "counters")) (Err fault)
 IsFirstRefusal files m (refusals.Pinned fault) =
-    HasReading m × HasExtraction m × IsTaken files.counters (path_in m (codes "from"))
+    HaveSaid m × IsTaken files.counters (path_in m (codes "from"))
     × IsTaken files.counters (path_in m (codes "counters")) × Gives files.payloads (path_in m (codes "pinned")) (Err fault)
+IsFirstRefusal files m (refusals.Facts fault) =
+    HaveSaid m × HaveKnown files m × Gives files.places (path_in m (codes "facts")) (Err fault)
+IsFirstRefusal files m (refusals.Places fault) =
+    HaveSaid m × HaveKnown files m × IsTaken files.places (path_in m (codes "facts"))
+    × Gives files.places (path_in m (codes "places")) (Err fault)
 IsFirstRefusal files m (refusals.Answers fault) =
-    HasReading m × HasExtraction m × IsTaken files.counters (path_in m (codes "from"))
-    × IsTaken files.counters (path_in m (codes "counters")) × IsTaken files.payloads (path_in m (codes "pinned"))
-    × Gives files.answers (path_in m (codes "answers")) (Err fault)
+    HaveSaid m × HaveKnown files m × IsTaken files.places (path_in m (codes "facts"))
+    × IsTaken files.places (path_in m (codes "places")) × Gives files.answers (path_in m (codes "answers")) (Err fault)
 IsFirstRefusal files m _ = ⊥
+
+-- how a log is read and what is extracted, by the options alone
+pub record HaveNamed (m : ArgMatches) (r : ReadOptions) (e : Extraction) : Type 0 where
+  pub reading : IsReading m r
+  pub extraction : IsExtraction m (Ok e)
+  pub objects : AreObjects m
+
+-- why the options by themselves ask nothing of a log
+abbrev pub HaveFailed : ArgMatches → Task → Refusal → Type 0
+HaveFailed m task refusals.NoOption = GivesLimits m None
+HaveFailed m task (refusals.SalvagedLines asked) = (asked ≡ task) × HasLimits m × AreSalvagedLines m
+HaveFailed m task (refusals.Extraction fault) = HasReading m × IsExtraction m (Err fault)
+HaveFailed m task refusals.PlainFacts = HasReading m × HasExtraction m × ArePlainFacts m
+HaveFailed m task _ = ⊥
 
 -- why nothing is asked of a log: the same, or `--salvage` beside `--lines`, which is refused right after the limits
 abbrev pub IsUnasked : Contents → ArgMatches → Task → Refusal → Type 0

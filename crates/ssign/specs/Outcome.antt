@@ -51,7 +51,10 @@ IsUnexplained m _ = ⊥
 abbrev pub IsMistake : ArgMatches → Refusal → Notice → Type 0
 IsMistake m (refusals.SalvagedLines task) notice = IsUsage kinds.ArgumentConflict notice
 IsMistake m (refusals.Extraction extraction.Both) notice = IsUsage kinds.ArgumentConflict notice
+IsMistake m (refusals.Extraction extraction.FileAndUnlisted) notice = IsUsage kinds.ArgumentConflict notice
+IsMistake m (refusals.Extraction extraction.FileAndPlace) notice = IsUsage kinds.ArgumentConflict notice
 IsMistake m refusals.UnansweredAsk notice = IsUsage kinds.MissingRequiredArgument notice
+IsMistake m refusals.PlainFacts notice = IsUsage kinds.MissingRequiredArgument notice
 IsMistake m refusals.NoCode notice = IsUsage kinds.MissingRequiredArgument notice
 IsMistake m refusals.NoEntry notice = IsUnexplained m notice
 IsMistake m _ notice = notice ≡ Nothing

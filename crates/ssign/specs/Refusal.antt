@@ -7,13 +7,14 @@ use Rattle.ss_report.specs.declared.fault.RunFault.TheVariants as run
 use Rattle.ss_signing.specs.declared.fault.SignFault.{SignFault}
 use Rattle.ss_signing.specs.declared.fault.SignFault.TheVariants as signing
 use Rattle.ss_signing.specs.FaultCode.{sign_fault_code}
-use Rattle.ss_answers.specs.FaultCode.{answer_fault_code, counter_fault_code, start_fault_code}
+use Rattle.ss_answers.specs.FaultCode.{answer_fault_code, counter_fault_code, place_fault_code, start_fault_code}
 use Rattle.ssign.specs.FaultCode.{questions_fault_code, settings_fault_code}
 use Rattle.ssign.specs.declared.extraction.ExtractionFault.TheVariants as extraction
 use Rattle.ssign.specs.declared.refusal.Refusal.{Refusal}
 use Rattle.ssign.specs.declared.refusal.Refusal.TheVariants.{NoOption, SalvagedLines, Extraction, From, Counters, Pinned}
 use Rattle.ssign.specs.declared.refusal.Refusal.TheVariants.{Answers, Settings, Resume, Start, Run, Signing, NoCode}
 use Rattle.ssign.specs.declared.refusal.Refusal.TheVariants.{NoEntry, UnansweredAsk, Questions, LateAnswers, LateRun}
+use Rattle.ssign.specs.declared.refusal.Refusal.TheVariants.{PlainFacts, Facts, Places}
 
 -- what is seen of a code
 abbrev pub code_seen : Option Code → Option (List ℕ × Option ℕ)
@@ -25,11 +26,16 @@ refusal_code NoOption = None
 refusal_code (SalvagedLines task) = None
 refusal_code UnansweredAsk = None
 refusal_code (Extraction extraction.Both) = None
+refusal_code (Extraction extraction.FileAndUnlisted) = None
+refusal_code (Extraction extraction.FileAndPlace) = None
 refusal_code (Extraction extraction.NoNumber) = None
 refusal_code (Extraction extraction.Memory) = Some (run_fault_code run.Memory)
+refusal_code PlainFacts = None
 refusal_code (From fault) = Some (counter_fault_code fault)
 refusal_code (Counters fault) = Some (counter_fault_code fault)
 refusal_code (Pinned fault) = Some (answer_fault_code fault)
+refusal_code (Facts fault) = Some (place_fault_code fault)
+refusal_code (Places fault) = Some (place_fault_code fault)
 refusal_code (Answers fault) = Some (answer_fault_code fault)
 refusal_code (Settings fault) = Some (settings_fault_code fault)
 refusal_code (Resume fault) = Some (counter_fault_code fault)

@@ -12,7 +12,7 @@ use Rattle.ssign.specs.declared.refusal.Refusal.{Refusal}
 use Rattle.ssign.specs.declared.refusal.Refusal.TheVariants as refusals
 use Rattle.ssign.specs.declared.refusing.Remark.{Remark}
 use Rattle.ssign.specs.declared.refusing.Remark.TheVariants.{Nothing, AnswersFile, QuestionsFile, CountersFile}
-use Rattle.ssign.specs.declared.refusing.Remark.TheVariants.{FromFile, PinnedFile, ResumeFile, Text, Cause}
+use Rattle.ssign.specs.declared.refusing.Remark.TheVariants.{FromFile, PinnedFile, FactsFile, PlacesFile, ResumeFile, Text, Cause}
 use Rattle.ssign.specs.declared.settings.SettingsFault.{SettingsFault}
 use Rattle.ssign.specs.declared.settings.SettingsFault.TheVariants.{OutOfForm, Memory}
 
@@ -38,6 +38,8 @@ abbrev pub IsRemark : Refusal → ArgMatches → Form → List ℕ → Remark �
 IsRemark (refusals.From fault) m form octets remark = NamesFile FromFile (path_in m (codes "from")) remark
 IsRemark (refusals.Counters fault) m form octets remark = NamesFile CountersFile (path_in m (codes "counters")) remark
 IsRemark (refusals.Pinned fault) m form octets remark = NamesFile PinnedFile (path_in m (codes "pinned")) remark
+IsRemark (refusals.Facts fault) m form octets remark = NamesFile FactsFile (path_in m (codes "facts")) remark
+IsRemark (refusals.Places fault) m form octets remark = NamesFile PlacesFile (path_in m (codes "places")) remark
 IsRemark (refusals.Answers fault) m form octets remark = NamesFile AnswersFile (path_in m (codes "answers")) remark
 IsRemark (refusals.Questions fault) m form octets remark = NamesFile QuestionsFile (path_in m (codes "ask")) remark
 IsRemark (refusals.LateAnswers fault) m form octets remark = NamesFile AnswersFile (path_in m (codes "answers")) remark

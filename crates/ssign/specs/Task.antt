@@ -33,13 +33,14 @@ abbrev pub inspection_form : Reporting → InspectionForm
 inspection_form r = record { lines = r.form; unwrap = r.unwrap }
 
 -- what a run makes of a log: under these answers, or without any, by these known payloads, and as it is to be reported;
--- of a review that is to be whole, from the first counters up to the others, and of an extract what is to be written
+-- of a review that is to be whole, from the first counters up to the others, of an inspection the places whose messages
+-- are shown, and of an extract what is to be written
 abbrev pub job_of :
-    Answers → Reporting → (known : Option (List (List ℕ))) → (first counters : Option (List Counter)) → Extraction → Task
-    → Job
-job_of says r known first counters e Review = review_of says r known first counters
-job_of says r known first counters e Questions = asking (notation_of r.form) r.payloads known
-job_of says r known first counters e Extract = extracting e known says
-job_of says r known first counters e Inspect = inspecting (inspection_form r)
-job_of says r known first counters e Counters = counting (notation_of r.form) known says
-job_of says r known first counters e Carry = extracting carrying known says
+    Answers → Reporting → (known : Option (List (List ℕ))) → (first counters : Option (List Counter))
+    → (facts : Option (List ℕ)) → Extraction → Task → Job
+job_of says r known first counters facts e Review = review_of says r known first counters
+job_of says r known first counters facts e Questions = asking (notation_of r.form) r.payloads known
+job_of says r known first counters facts e Extract = extracting e known says
+job_of says r known first counters facts e Inspect = inspecting (inspection_form r) facts
+job_of says r known first counters facts e Counters = counting (notation_of r.form) known says
+job_of says r known first counters facts e Carry = extracting carrying known says

@@ -1,5 +1,5 @@
 //! The command line.
-ghost use Rattle.std.specs.Prelude.{◌≡◌, ◌<◌, ◌^◌, ◌||◌, ℕ, Some, codes, decimal, IfOk, IfSome};
+ghost use Rattle.std.specs.Prelude.{◌≡◌, ◌<◌, ◌^◌, ◌&&◌, ◌||◌, not, ℕ, Some, codes, decimal, IfOk, IfSome};
 ghost use Rattle.std.specs.Prelude.{map, option_and_then, option_map};
 ghost use Rattle.std.specs.Option.{SomeIff, is_some};
 ghost use Rattle.clap.specs.Words.{App, app_of, first_value, found_of, kind_of, matched_of, new_app, raw_values};
@@ -197,6 +197,26 @@ pub fn extract_conflict(alloc: Global) -> Result<Error, AllocError>
     )
 }
 
+/// The mistake of an extract that is to write the unlisted messages and those at the places of a file.
+pub fn unlisted_conflict(alloc: Global) -> Result<Error, AllocError>
+    ensures { IfOk result (λ e. kind_of e ≡ ErrorKind.ArgumentConflict) }
+{
+    Order::Log(Task::Extract).command(alloc, versions())?.error(
+        ErrorKind::ArgumentConflict,
+        "the argument '--unlisted' cannot be used with '--places <FILE>'",
+    )
+}
+
+/// The mistake of an extract that is to write the messages at given places and those at the places of a file.
+pub fn place_conflict(alloc: Global) -> Result<Error, AllocError>
+    ensures { IfOk result (λ e. kind_of e ≡ ErrorKind.ArgumentConflict) }
+{
+    Order::Log(Task::Extract).command(alloc, versions())?.error(
+        ErrorKind::ArgumentConflict,
+        "the argument '--place <N>' cannot be used with '--places <FILE>'",
+    )
+}
+
 /// The mistake of a command that is to read lines on after damage.
 pub fn salvage_conflict(alloc: Global, task: Task) -> Result<Error, AllocError>
     ensures { IfOk result (λ e. kind_of e ≡ ErrorKind.ArgumentConflict) }
@@ -244,6 +264,16 @@ pub fn unanswered_ask(alloc: Global) -> Result<Error, AllocError>
     Order::Log(Task::Review).command(alloc, versions())?.error(
         ErrorKind::MissingRequiredArgument,
         "the argument '--ask <ask>' cannot be used without '--answers <answers>'",
+    )
+}
+
+/// The mistake of an inspection that is to show messages, and not as JSON objects.
+pub fn plain_facts(alloc: Global) -> Result<Error, AllocError>
+    ensures { IfOk result (λ e. kind_of e ≡ ErrorKind.MissingRequiredArgument) }
+{
+    Order::Log(Task::Inspect).command(alloc, versions())?.error(
+        ErrorKind::MissingRequiredArgument,
+        "the argument '--facts <FILE>' cannot be used without '--json'",
     )
 }
 
@@ -310,6 +340,28 @@ pub fn pinned_file<'a>(matches: &ArgMatches<'a>) -> Option<&'a str>
     ensures { option_map (λ s. s.now) result ≡ first_value (found_of matches.now) (codes "pinned") }
 {
     matches.get_str(options::PINNED.name)
+}
+
+/// The file of the places whose messages an inspection shows, if one was given.
+pub fn facts_file<'a>(matches: &ArgMatches<'a>) -> Option<&'a str>
+    ensures { option_map (λ s. s.now) result ≡ first_value (found_of matches.now) (codes "facts") }
+{
+    matches.get_str(options::FACTS.name)
+}
+
+/// Whether messages are to be shown, and not as JSON objects.
+pub fn are_plain_facts(matches: &ArgMatches<'_>) -> bool
+    ensures { result ≡ (is_some (first_value (found_of matches.now) (codes "facts"))
+        && not (is_given matches.now (codes "json"))) }
+{
+    facts_file(matches).is_some() && !asks_for_json(matches)
+}
+
+/// The file of the places whose messages are extracted, if one was given.
+pub fn places_file<'a>(matches: &ArgMatches<'a>) -> Option<&'a str>
+    ensures { option_map (λ s. s.now) result ≡ first_value (found_of matches.now) (codes "places") }
+{
+    matches.get_str(options::PLACES.name)
 }
 
 /// The form of a report that the flags ask for. A command without these flags has plain text.

@@ -1,9 +1,9 @@
 //! The commands: a row for each.
 use crate::options::{
-    AHEAD, ANSWERS, ANSWERS_SEALED, ASK, CODE, COUNTERS as COUNTERS_FILE, FINDINGS, FINDINGS_PLAIN,
-    FROM, IN_ORDER, JSON, JSON_EXPLAINED, LINES_OUT, NOT_EMPTY, ONCE, OptionRow, PINNED, PLACE,
-    READING, RESUME, SALVAGE, SALVAGE_REPORTED, SIGNING, TALLY, UNLISTED, UNWRAP, UNWRAP_SHOWN,
-    WHOLE, WRAP,
+    AHEAD, ANSWERS, ANSWERS_SEALED, ASK, CODE, COUNTERS as COUNTERS_FILE, FACTS, FINDINGS,
+    FINDINGS_PLAIN, FROM, IN_ORDER, JSON, JSON_EXPLAINED, LINES_OUT, NOT_EMPTY, ONCE, OptionRow,
+    PINNED, PLACE, PLACES, READING, RESUME, SALVAGE, SALVAGE_REPORTED, SIGNING, TALLY, UNLISTED,
+    UNWRAP, UNWRAP_SHOWN, WHOLE, WRAP,
 };
 
 /// What the help of a command has of its own.
@@ -67,7 +67,9 @@ pub const EXTRACT: CommandRow = CommandRow {
     name: "extract",
     about: "Writes messages of the log as octet-counted frames: those that a review lists, or others",
     note: Note::Usage("ssign extract [OPTIONS] < FILE"),
-    options: &[ANSWERS, UNLISTED, PLACE, LINES_OUT, UNWRAP, PINNED, SALVAGE],
+    options: &[
+        ANSWERS, UNLISTED, PLACE, PLACES, LINES_OUT, UNWRAP, PINNED, SALVAGE,
+    ],
     shared: &READING,
 };
 
@@ -76,7 +78,7 @@ pub const INSPECT: CommandRow = CommandRow {
     name: "inspect",
     about: "Writes what each message of the log is: plain, a block, or unparsed, and why",
     note: Note::Usage("ssign inspect [OPTIONS] < FILE"),
-    options: &[FINDINGS_PLAIN, JSON, UNWRAP_SHOWN, SALVAGE_REPORTED],
+    options: &[FINDINGS_PLAIN, JSON, FACTS, UNWRAP_SHOWN, SALVAGE_REPORTED],
     shared: &READING,
 };
 

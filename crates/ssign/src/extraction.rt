@@ -1,12 +1,16 @@
 //! What the options of an extract ask for.
-ghost use Rattle.std.specs.Prelude.{◌≡◌, ◌≢◌, ◌<◌, ◌^◌, ◌↔◌, ℕ, List, Contains, map, option_map, None, Ok};
-ghost use Rattle.std.specs.Prelude.{codes, IfOk, IfErr, IsErrOf};
+ghost use Rattle.std.specs.Prelude.{◌≡◌, ◌<◌, ◌^◌, ◌↔◌, ℕ, List, Contains, map, option_map, None};
+ghost use Rattle.std.specs.Prelude.{codes, false, IfOk, IfErr, IsErrOf};
 ghost use Rattle.std.specs.List.{AllByRecursion};
 ghost use Rattle.std.specs.List.Sorted.{IsStrictlyIncreasing};
+ghost use Rattle.std.specs.Option.{is_some};
+ghost use Rattle.clap.specs.Words.{first_value, found_of};
 ghost use Rattle.ssign.specs.CommandLine.{form_of, is_given};
-ghost use Rattle.ssign.specs.Extraction.{AreInOrder, GivesExtraction, Selects, SpellNumbers, texts_given};
-ghost use Rattle.ssign.specs.declared.extraction.ExtractionFault.TheVariants.{Both, Memory, NoNumber};
+ghost use Rattle.ssign.specs.Extraction.{AreInOrder, GivesExtraction, IsAt, Selects, SpellNumbers};
+ghost use Rattle.ssign.specs.Extraction.{is_of_options, texts_given};
+ghost use Rattle.ssign.specs.declared.extraction.ExtractionFault.TheVariants.{Memory, NoNumber};
 
+use crate::command_line::places_file;
 use crate::flags::is_given;
 use crate::options;
 use clap::ArgMatches;
@@ -20,6 +24,10 @@ use std::alloc::{AllocError, AllocFailed, Global};
 pub enum ExtractionFault {
     /// Places are given, and the unlisted messages are asked for too.
     Both,
+    /// A file of places is named, and the unlisted messages are asked for too.
+    FileAndUnlisted,
+    /// A file of places is named, and places are given too.
+    FileAndPlace,
     /// A place isn't a number below 2^32, which a parse by `command` doesn't let through.
     NoNumber,
     /// Out of memory.
@@ -34,15 +42,18 @@ impl<T: Drop> From<AllocFailed<T>> for ExtractionFault {
     }
 }
 
-/// What is to be extracted by the options. A command without them has the listed messages as frames, as they stand.
+/// What is to be extracted by the options, but for the places of a file. A command without them has the listed messages
+/// as frames, as they stand.
 pub fn extraction_of(alloc: Global, matches: &ArgMatches<'_>) -> Result<Extraction, ExtractionFault>
     ensures { GivesExtraction (is_given matches.now (codes "unlisted")) (texts_given matches.now (codes "place"))
+        (is_some (first_value (found_of matches.now) (codes "places")))
         (is_given matches.now (codes "lines-out")) (is_given matches.now (codes "unwrap")) result }
 {
     let selection = selection_of(
         alloc,
         matches.get_strs(options::PLACE.name),
         is_given(matches, options::UNLISTED.name),
+        places_file(matches).is_some(),
     )?;
     let form = form_out(matches);
     let unwrap = is_given(matches, options::UNWRAP.name);
@@ -64,39 +75,61 @@ pub fn form_out(matches: &ArgMatches<'_>) -> Form
     }
 }
 
-/// Which messages are asked for, by the texts of places and by whether the unlisted ones are.
+/// Which messages are asked for, by the texts of places, by whether the unlisted ones are, and by whether a file of places
+/// is named.
 fn selection_of(
     alloc: Global,
     texts: Option<&[&str]>,
     unlisted: bool,
+    file: bool,
 ) -> Result<Selection, ExtractionFault>
-    ensures { Selects unlisted (option_map (λ t. map (λ s. s.now) t.now) texts.entry) result }
+    ensures { Selects unlisted (option_map (λ t. map (λ s. s.now) t.now) texts.entry) file result }
 {
     let Some(texts) = texts else {
-        return Ok(listed_or_not(unlisted));
+        return listed_or_not(unlisted, file);
     };
     if unlisted {
         return Err(ExtractionFault::Both);
+    }
+    if file {
+        return Err(ExtractionFault::FileAndPlace);
     }
     let places = in_order(numbers_of(alloc, texts)?);
     Ok(Selection::At(Places::from_vec(places)))
 }
 
 /// The unlisted messages, or the listed ones.
-fn listed_or_not(unlisted: bool) -> Selection
-    ensures { Selects unlisted None (Ok result) }
+fn listed_or_not(unlisted: bool, file: bool) -> Result<Selection, ExtractionFault>
+    ensures { Selects unlisted None file result }
 {
-    if unlisted {
-        Selection::Unlisted
-    } else {
-        Selection::Listed
+    match (unlisted, file) {
+        (true, true) => Err(ExtractionFault::FileAndUnlisted),
+        (true, false) => Ok(Selection::Unlisted),
+        (false, _) => Ok(Selection::Listed),
+    }
+}
+
+/// What is to be extracted, where a file gives these places: the messages there, each once, by rising place. Without a
+/// file it is what the options name.
+pub fn at_places(extraction: Extraction, places: Option<Places>) -> Extraction
+    ensures { IsAt places extraction result }
+{
+    let Some(places) = places else {
+        return extraction;
+    };
+    let Extraction { form, unwrap, .. } = extraction;
+    let places = in_order(places.into_vec());
+    Extraction {
+        selection: Selection::At(Places::from_vec(places)),
+        form,
+        unwrap,
     }
 }
 
 /// The numbers that texts spell.
 fn numbers_of(alloc: Global, texts: &[&str]) -> Result<Vec<u32>, ExtractionFault>
     ensures found { IfOk result (λ numbers. SpellNumbers (map (λ s. s.now) texts.now) numbers.items) }
-    ensures kinds { IfErr result (λ fault. fault ≢ Both) }
+    ensures kinds { IfErr result (λ fault. is_of_options fault ≡ false) }
     ensures none { IsErrOf result NoNumber → (ns : List ℕ) → SpellNumbers (map (λ s. s.now) texts.now) ns
         → ¬ AllByRecursion (λ n. n < 2 ^ 32) ns }
 {

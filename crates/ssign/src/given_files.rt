@@ -6,9 +6,12 @@ ghost use Rattle.ss_answers.specs.Answers.{Rise};
 ghost use Rattle.ssign.specs.GivenFiles.{Adds, Contents, Gives, HoldsNothing, WrittenFile};
 
 use crate::questions_fault::QuestionsFault;
-use ss_answers::{AnswerFault, Answers, CounterFault, open_answers, open_counters, open_payloads};
+use ss_answers::{
+    AnswerFault, Answers, CounterFault, PlaceFault, open_answers, open_counters, open_payloads,
+    open_places,
+};
 use ss_octets::{Bytes, List as OwnedList};
-use ss_review::Counters;
+use ss_review::{Counters, Places};
 use std::io::{BufWriter, Write};
 use std::rt::Files;
 use std::{fs, io};
@@ -36,6 +39,10 @@ pub trait GivenFiles {
     fn payloads(&self, path: &str) -> Result<OwnedList<Bytes>, AnswerFault>
         ensures given { (contents self.now).payloads path.now result }
         ensures rise { IfOk result Rise };
+
+    /// The places of a file, in its order.
+    fn places(&self, path: &str) -> Result<Places, PlaceFault>
+        ensures { (contents self.now).places path.now result };
 
     /// The answers of a file.
     fn answers(&self, path: &str) -> Result<Answers, AnswerFault>
@@ -86,6 +93,10 @@ impl<R: Files + AllocGlobal> GivenFiles for SystemFiles<'_, R> {
             Ok(payloads) => Ok(OwnedList::from_vec(payloads)),
             Err(fault) => Err(fault),
         }
+    }
+
+    fn places(&self, path: &str) -> Result<Places, PlaceFault> {
+        open_places(self.rt, path)
     }
 
     fn answers(&self, path: &str) -> Result<Answers, AnswerFault> {
@@ -160,6 +171,19 @@ pub fn payloads_in<F: GivenFiles>(
     };
     match files.payloads(path) {
         Ok(payloads) => Ok(Some(payloads)),
+        Err(fault) => Err(fault),
+    }
+}
+
+/// The places of the file that an option names, if it is given.
+pub fn places_in<F: GivenFiles>(files: &F, path: Option<&str>) -> Result<Option<Places>, PlaceFault>
+    ensures { Gives (F.contents files.now).places (option_map (λ s. s.now) path.entry) result }
+{
+    let Some(path) = path else {
+        return Ok(None);
+    };
+    match files.places(path) {
+        Ok(places) => Ok(Some(places)),
         Err(fault) => Err(fault),
     }
 }

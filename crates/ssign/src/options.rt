@@ -187,6 +187,13 @@ pub const PLACE: OptionRow = OptionRow {
     ..FLAG
 };
 
+/// `--places`: extracts the messages at the places of a file.
+pub const PLACES: OptionRow = OptionRow {
+    name: "places",
+    help: "Writes the messages at the places of FILE instead, one place a line, as --place does for each of them",
+    ..FILE
+};
+
 /// `--lines-out`: extracts lines (RFC 6587, section 3.4.2), and no octet-counted frames (section 3.4.1).
 pub const LINES_OUT: OptionRow = OptionRow {
     name: "lines-out",
@@ -205,6 +212,14 @@ pub const UNWRAP: OptionRow = OptionRow {
 pub const UNWRAP_SHOWN: OptionRow = OptionRow {
     help: "Writes what the original message in a wrap is, as a wrapped- line with its place",
     ..UNWRAP
+};
+
+/// `--facts`: the file of the places whose messages an inspection shows.
+pub const FACTS: OptionRow = OptionRow {
+    name: "facts",
+    help: "Adds octets, timestamp and marked to each object, and to those of the messages at the places of FILE, one \
+        place a line, the octets of the message and of what it holds, in base64; --json has to be given too",
+    ..FILE
 };
 
 /// `--pinned`: the file of the payloads that are known beforehand (RFC 5848, sections 5.3 and 7).

@@ -7,7 +7,8 @@ ghost use Rattle.ssign.specs.Outcome.{outcome_of_fault, silent, status_of_kind};
 ghost use Rattle.ssign.specs.Refusal.{refusal_code};
 
 use crate::command_line::{
-    code_missing, extract_conflict, given_code, salvage_conflict, unanswered_ask,
+    code_missing, extract_conflict, given_code, place_conflict, plain_facts, salvage_conflict,
+    unanswered_ask, unlisted_conflict,
 };
 use crate::extraction::ExtractionFault;
 use crate::refusal::Refusal;
@@ -155,13 +156,26 @@ fn mistake_of<'a>(alloc: Global, refusal: Refusal, options: &ArgMatches<'a>) -> 
 {
     match refusal {
         Refusal::SalvagedLines(task) => return conflict_of(salvage_conflict(alloc, task)),
-        Refusal::Extraction(ExtractionFault::Both) => return conflict_of(extract_conflict(alloc)),
+        Refusal::Extraction(fault) => return extraction_mistake(alloc, fault),
         Refusal::UnansweredAsk => return missing_of(unanswered_ask(alloc)),
+        Refusal::PlainFacts => return missing_of(plain_facts(alloc)),
         Refusal::NoCode => return missing_of(code_missing(alloc)),
         Refusal::NoEntry => return unexplained(options),
         _ => {}
     }
     Notice::Nothing
+}
+
+/// What is printed where options don't name what is to be extracted.
+fn extraction_mistake<'a>(alloc: Global, fault: ExtractionFault) -> Notice<'a>
+    ensures { (m : ArgMatches) → IsMistake m (Refusal.Extraction fault) result }
+{
+    match fault {
+        ExtractionFault::Both => conflict_of(extract_conflict(alloc)),
+        ExtractionFault::FileAndUnlisted => conflict_of(unlisted_conflict(alloc)),
+        ExtractionFault::FileAndPlace => conflict_of(place_conflict(alloc)),
+        ExtractionFault::NoNumber | ExtractionFault::Memory => Notice::Nothing,
+    }
 }
 
 /// That no entry has the code that is asked about.

@@ -6,7 +6,7 @@ use crate::extraction::ExtractionFault;
 use crate::questions_fault::QuestionsFault;
 use crate::settings::SettingsFault;
 use crate::task::Task;
-use ss_answers::{AnswerFault, CounterFault, StartFault};
+use ss_answers::{AnswerFault, CounterFault, PlaceFault, StartFault};
 use ss_octets::Code;
 use ss_report::RunFault;
 use ss_signing::SignFault;
@@ -22,12 +22,18 @@ pub enum Refusal {
     UnansweredAsk,
     /// The options don't name what is to be extracted.
     Extraction(ExtractionFault),
+    /// An inspection is to show messages, and not as JSON objects.
+    PlainFacts,
     /// The file of `--from` gives no counters.
     From(CounterFault),
     /// The file of `--counters` gives no counters.
     Counters(CounterFault),
     /// The file of `--pinned` gives no payloads.
     Pinned(AnswerFault),
+    /// The file of `--facts` gives no places.
+    Facts(PlaceFault),
+    /// The file of `--places` gives no places.
+    Places(PlaceFault),
     /// The file of `--answers` gives no answers.
     Answers(AnswerFault),
     /// The options don't say how a log is to be signed.
@@ -59,12 +65,15 @@ impl Refusal {
     {
         match self {
             Refusal::NoOption | Refusal::SalvagedLines(_) | Refusal::NoEntry => None,
-            Refusal::UnansweredAsk | Refusal::NoCode => None,
+            Refusal::UnansweredAsk | Refusal::PlainFacts | Refusal::NoCode => None,
             Refusal::Extraction(ExtractionFault::Both) => None,
+            Refusal::Extraction(ExtractionFault::FileAndUnlisted) => None,
+            Refusal::Extraction(ExtractionFault::FileAndPlace) => None,
             Refusal::Extraction(ExtractionFault::NoNumber) => None,
             Refusal::Extraction(ExtractionFault::Memory) => Some(RunFault::Memory.code()),
             Refusal::From(fault) | Refusal::Counters(fault) => Some(fault.code()),
             Refusal::Pinned(fault) | Refusal::Answers(fault) => Some(fault.code()),
+            Refusal::Facts(fault) | Refusal::Places(fault) => Some(fault.code()),
             Refusal::Settings(fault) => Some(fault.code()),
             Refusal::Resume(fault) => Some(fault.code()),
             Refusal::Start(fault) => Some(fault.code()),

@@ -5,12 +5,13 @@ ghost use Rattle.ssign.specs.Remark.{IsRemark, cause_remark, SaysOfSettings};
 
 use crate::asked::asked_word;
 use crate::command_line::{
-    answers_file, ask_file, counters_file, from_file, pinned_file, resume_file,
+    answers_file, ask_file, counters_file, facts_file, from_file, pinned_file, places_file,
+    resume_file,
 };
 use crate::explain::explanation_of;
 use crate::explanations::{Tables, all_tables};
 use crate::likely_cause::{LikelyCause, run_cause, signing_cause};
-use crate::options::{ANSWERS, ASK, COUNTERS, FROM, PINNED, RESUME};
+use crate::options::{ANSWERS, ASK, COUNTERS, FACTS, FROM, PINNED, PLACES, RESUME};
 use crate::outcome::{Notice, Outcome, REFUSED};
 use crate::refusal::Refusal;
 use crate::settings::SettingsFault;
@@ -53,6 +54,10 @@ pub enum Remark<'a> {
     FromFile(&'a str),
     /// This file of payloads that are known beforehand.
     PinnedFile(&'a str),
+    /// This file of the places whose messages an inspection was to show.
+    FactsFile(&'a str),
+    /// This file of the places whose messages were to be extracted.
+    PlacesFile(&'a str),
     /// This counters file, at which an originator was to go on.
     ResumeFile(&'a str),
     /// This option, and its text.
@@ -83,6 +88,12 @@ impl Display for Remark<'_> {
                     "The file of known payloads is --{} {file:?}.",
                     PINNED.name
                 )
+            }
+            Remark::FactsFile(file) => {
+                writeln!(f, "The places file is --{} {file:?}.", FACTS.name)
+            }
+            Remark::PlacesFile(file) => {
+                writeln!(f, "The places file is --{} {file:?}.", PLACES.name)
             }
             Remark::ResumeFile(file) => {
                 writeln!(f, "The counters file is --{} {file:?}.", RESUME.name)
@@ -149,6 +160,14 @@ pub fn remark_on<'a>(
             Some(file) => Remark::PinnedFile(file),
             None => Remark::Nothing,
         },
+        Refusal::Facts(_) => match facts_file(options) {
+            Some(file) => Remark::FactsFile(file),
+            None => Remark::Nothing,
+        },
+        Refusal::Places(_) => match places_file(options) {
+            Some(file) => Remark::PlacesFile(file),
+            None => Remark::Nothing,
+        },
         Refusal::Questions(_) => match ask_file(options) {
             Some(file) => Remark::QuestionsFile(file),
             None => Remark::Nothing,
@@ -167,6 +186,7 @@ pub fn remark_on<'a>(
         Refusal::NoOption
         | Refusal::SalvagedLines(_)
         | Refusal::UnansweredAsk
+        | Refusal::PlainFacts
         | Refusal::LateRun(_)
         | Refusal::Extraction(_)
         | Refusal::NoCode

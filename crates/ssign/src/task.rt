@@ -13,7 +13,7 @@ use ss_report::{
     Beside, Detail, Extraction, InspectionForm, Payloads, ReadOptions, ReportForm, Run, RunFault,
     Selection, Verdict, run_counters, run_extract, run_inspect, run_questions, run_review_as,
 };
-use ss_review::{Counter, Judge};
+use ss_review::{Counter, Judge, Places};
 use std::alloc::Global;
 use std::io::{Read, Write};
 
@@ -63,6 +63,8 @@ pub struct TaskRequest<'c> {
     pub first: Option<&'c [Counter]>,
     /// Up to which counters a review is to be whole, if they are given.
     pub counters: Option<&'c [Counter]>,
+    /// The places whose messages an inspection shows, if they are given.
+    pub facts: Option<Places>,
     /// Which messages an extract writes, and in which form.
     pub extraction: Extraction,
     /// In which form the log is stored, how long it and its messages may be, and whether reading goes on after damage.
@@ -70,8 +72,9 @@ pub struct TaskRequest<'c> {
 }
 
 /// Reads a log to its end, and writes what is asked of it in the form that is wanted. A whole review goes up to these
-/// counters, one of a night begins at the first ones, and an extract has the messages that are wanted. Where payloads
-/// are known beforehand, sessions are joined by them; inspections and extracts of given places don't look at them.
+/// counters, one of a night begins at the first ones, an inspection shows the messages at the places that are given, and
+/// an extract has the messages that are wanted. Where payloads are known beforehand, sessions are joined by them;
+/// inspections and extracts of given places don't look at them.
 /// Questions, inspections and extracts of given places ask the judge nothing. The judge is freed once it is known which
 /// blocks are verified.
 ///
@@ -92,13 +95,15 @@ pub fn run_task<R: Read, W: Write, J: Judge + Drop>(
     requires askable { (q : Question) → J.askable judge q }
     ensures done { IfOk result
         (Runs (job_of (answers J.trusted J.valid judge) request.entry.reporting (given request.entry.known)
-        (given request.entry.first) (given request.entry.counters) request.entry.extraction request.entry.task)
+        (given request.entry.first) (given request.entry.counters) request.entry.facts request.entry.extraction
+        request.entry.task)
         request.entry.reading
         (source_of R.remaining reader.old) (source_of R.remaining reader.new)
         (sink_of W.contents writer.old) (sink_of W.contents writer.new)) }
     ensures stopped { IfErr result
         (Stops (job_of (answers J.trusted J.valid judge) request.entry.reporting (given request.entry.known)
-        (given request.entry.first) (given request.entry.counters) request.entry.extraction request.entry.task)
+        (given request.entry.first) (given request.entry.counters) request.entry.facts request.entry.extraction
+        request.entry.task)
         request.entry.reading
         (source_of R.remaining reader.old) (source_of R.remaining reader.new)
         (sink_of W.contents writer.old) (sink_of W.contents writer.new)) }
@@ -110,6 +115,7 @@ pub fn run_task<R: Read, W: Write, J: Judge + Drop>(
         known,
         first,
         counters,
+        facts,
         extraction,
         reading,
     } = request;
@@ -134,7 +140,7 @@ pub fn run_task<R: Read, W: Write, J: Judge + Drop>(
         }
         Task::Questions => run_questions(run, notation, payloads),
         Task::Extract => run_extract(run, judge, extraction),
-        Task::Inspect => run_inspect(run, inspection_form(reporting)),
+        Task::Inspect => run_inspect(run, inspection_form(reporting), facts),
         Task::Counters => run_counters(run, judge, notation),
         Task::Carry => run_extract(run, judge, carrying()),
     }

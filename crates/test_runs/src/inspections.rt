@@ -64,7 +64,7 @@ fn inspect_over<R: Read>(
         lines: ReportForm::Text,
         unwrap: false,
     };
-    let said = run_inspect(run, form);
+    let said = run_inspect(run, form, None);
     (said, reader, writer)
 }
 

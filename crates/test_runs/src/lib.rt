@@ -12,6 +12,8 @@ mod ends;
 #[cfg(test)]
 mod examples;
 #[cfg(test)]
+mod facts;
+#[cfg(test)]
 mod inspections;
 #[cfg(test)]
 mod keeping;

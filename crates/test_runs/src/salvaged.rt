@@ -178,7 +178,7 @@ fn make(
         Job::Selected => run_extract(run, Yes, extraction(Selection::Unlisted)),
         Job::At(place) => run_extract(run, Yes, at(alloc, place)?),
         Job::Counters => run_counters(run, Yes, Notation::Plain),
-        Job::Inspection(lines) => run_inspect(run, as_it_stands(lines)),
+        Job::Inspection(lines) => run_inspect(run, as_it_stands(lines), None),
     };
     Ok((said, writer.into_inner()))
 }

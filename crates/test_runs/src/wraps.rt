@@ -144,7 +144,7 @@ fn inspect(alloc: Global, log: &[u8], form: InspectionForm) -> (Result<Verdict, 
         known: None,
         alloc,
     };
-    let said = run_inspect(run, form);
+    let said = run_inspect(run, form, None);
     (said, writer.into_inner())
 }
 

@@ -1,6 +1,6 @@
 -- The runs over a log: what each writes of its messages and its ending, and its verdict. Those that review go by the
 -- payloads that are known beforehand, where some are given (`Pinned.antt` of `ss_review`).
-use Rattle.std.specs.Prelude.{true, false, ℕ, Option, List, ◌++◌, flat_map}
+use Rattle.std.specs.Prelude.{true, false, ℕ, Bool, Option, List, ◌++◌, flat_map}
 use Rattle.ss_frame.specs.Frame.{units_in}
 use Rattle.ss_frame.specs.Watched.{Source, Sink}
 use Rattle.ss_review.specs.keep.Notes.{notes}
@@ -12,6 +12,7 @@ use Rattle.ss_review.specs.announced.Announced.{Key}
 use Rattle.ss_review.specs.counted.KeptLaws.{NumberIsTold, BlockIsTold}
 use Rattle.ss_review.specs.pinned.Pinned.{blocks_by, report_by}
 use Rattle.ss_review.specs.pinned.Stands.{StandsFor}
+use Rattle.ss_report.specs.texts.Facts.{names_of}
 use Rattle.ss_report.specs.texts.Inspection.{inspection}
 use Rattle.ss_report.specs.forms.Forms.{line_as, report_lines}
 use Rattle.ss_block.specs.declared.session.Session.{Session}
@@ -36,14 +37,18 @@ use Rattle.ss_report.specs.declared.payloads.Payloads.{Payloads}
 use Rattle.ss_report.specs.declared.payloads.Payloads.TheVariants as payloads
 use Rattle.ss_report.specs.declared.verdict.verdict.Verdict.{Verdict}
 
--- a line a message, in a form
-abbrev pub inspecting : InspectionForm → Job
-inspecting form = record {
-  output = inspection form;
+-- a line a message, in a form, by whether a place is named, where facts are asked for
+abbrev pub inspecting_by : InspectionForm → Option (ℕ → Bool) → Job
+inspecting_by form names = record {
+  output = inspection form names;
   verdict = λ messages ending. end_verdict ending;
   reviews = false;
   refusal = nothing;
 }
+
+-- the same, with facts where places are named
+abbrev pub inspecting : InspectionForm → (facts : Option (List ℕ)) → Job
+inspecting form facts = inspecting_by form (names_of facts)
 
 -- the text of the report
 abbrev pub reviewing : Answers → Job

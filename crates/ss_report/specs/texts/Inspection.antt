@@ -1,6 +1,6 @@
 -- What each message of a log is, one line a message, each ended by LF: words with one SP between two, or a JSON object
 -- (RFC 8259). The findings alone leave out the plain messages. Where wraps are taken off, the line of a wrap says what
--- the octets in it are.
+-- the octets in it are. Where places are named, each line has facts too.
 use Rattle.std.specs.Prelude.{ℕ, ◌+◌, Bool, true, false, ◌&&◌, if◌then◌else◌, List, [], ◌∷◌, ◌++◌, codes}
 use Rattle.std.specs.Prelude.{length, Option, Some, None}
 use Rattle.ss_message.specs.declared.fault.Part.{Part}
@@ -17,6 +17,7 @@ use Rattle.ss_report.specs.records.Fields.{known_session_fields, group_fields, c
 use Rattle.ss_report.specs.records.Written.{written}
 use Rattle.ss_report.specs.forms.Forms.{notation_of, has_findings_alone}
 use Rattle.ss_report.specs.texts.Ending.{end_lines}
+use Rattle.ss_report.specs.texts.Facts.{fact_fields}
 use Rattle.ss_report.specs.declared.log.ending.Ending.{Ending}
 use Rattle.ss_report.specs.declared.notation.Notation.{Notation}
 use Rattle.ss_report.specs.declared.forms.inspection_form.InspectionForm.{InspectionForm}
@@ -111,12 +112,43 @@ line_of form place message None = stored_line form place message
 abbrev pub message_line : InspectionForm → ℕ → List ℕ → List ℕ
 message_line form place message = line_of form.lines place message (inside form.unwrap message)
 
+-- ---- a line with facts
+
+-- the line of a wrap of these octets, and of the message as it stands
+abbrev pub wrapped_facts : Notation → ℕ → List ℕ → (named : Bool) → (octets : List ℕ) → List ℕ
+wrapped_facts notation place message named octets = written notation (record {
+  kind = wrapped_kind (reading octets);
+  fields = reading_fields (reading octets) (session octets) place ++ fact_fields named message;
+})
+
+abbrev pub stored_facts : Notation → ℕ → List ℕ → (named : Bool) → List ℕ
+stored_facts notation place message named = written notation (record {
+  kind = reading_kind (reading message);
+  fields = reading_fields (reading message) (session message) place ++ fact_fields named message;
+})
+
+abbrev pub facts_of : ReportForm → ℕ → List ℕ → (named : Bool) → Option (List ℕ) → List ℕ
+facts_of form place message named (Some octets) = wrapped_facts (notation_of form) place message named octets
+facts_of form place message named None =
+    if has_findings_alone form && is_plain (reading message) then []
+    else stored_facts (notation_of form) place message named
+
+abbrev pub facts_line : InspectionForm → ℕ → List ℕ → (named : Bool) → List ℕ
+facts_line form place message named = facts_of form.lines place message named (inside form.unwrap message)
+
+-- ---- all lines
+
+-- by whether a place is named, where facts are asked for
+abbrev pub line_by : InspectionForm → Option (ℕ → Bool) → ℕ → List ℕ → List ℕ
+line_by form None place message = message_line form place message
+line_by form (Some names) place message = facts_line form place message (names place)
+
 -- the lines of messages of which the first has this place
-abbrev pub message_lines : InspectionForm → ℕ → List (List ℕ) → List ℕ
-message_lines form place [] = []
-message_lines form place (m ∷ ms) = message_line form place m ++ message_lines form (place + 1) ms
+abbrev pub message_lines : InspectionForm → Option (ℕ → Bool) → ℕ → List (List ℕ) → List ℕ
+message_lines form names place [] = []
+message_lines form names place (m ∷ ms) = line_by form names place m ++ message_lines form names (place + 1) ms
 
 -- the whole text
-unfoldable pub inspection : InspectionForm → List (List ℕ) → Ending → List ℕ
-inspection form messages ending =
-    message_lines form 0 messages ++ end_lines (notation_of form.lines) ending (length messages)
+unfoldable pub inspection : InspectionForm → Option (ℕ → Bool) → List (List ℕ) → Ending → List ℕ
+inspection form names messages ending =
+    message_lines form names 0 messages ++ end_lines (notation_of form.lines) ending (length messages)

@@ -1,11 +1,16 @@
 //! The line of an inspection: what a stored message is.
 ghost use Rattle.std.specs.Prelude.{◌≡◌, ◌++◌, None, IfOk, OnOk};
 ghost use Rattle.std.specs.Option.{option_copied};
+ghost use Rattle.ss_block.specs.Reading.{reading};
+ghost use Rattle.ss_block.specs.Session.{session};
+ghost use Rattle.ss_block.specs.Signed.{signed};
 ghost use Rattle.ss_frame.specs.Watched.{sink_of};
 ghost use Rattle.ss_report.specs.log.Writing.{Writes};
 ghost use Rattle.ss_report.specs.records.Written.{fields_in, written};
 ghost use Rattle.ss_report.specs.texts.Inspection.{part_word, head_fields, reading_kind, reading_fields, reading_line};
+ghost use Rattle.ss_report.specs.texts.Facts.{names_of};
 ghost use Rattle.ss_report.specs.texts.Inspection.{inside, is_plain, message_line, stored_line};
+ghost use Rattle.ss_report.specs.texts.Inspection.{facts_line, facts_of, line_by, stored_facts, wrapped_facts};
 ghost use Rattle.ss_report.specs.texts.Inspection.{wrapped_kind, wrapped_line, wrapped_record};
 
 use crate::forms::inspection_form::InspectionForm;
@@ -14,7 +19,11 @@ use crate::notation::Notation;
 use crate::records::fields::{put_group, put_known_session, put_spoilt};
 use crate::records::record::{begin, end, put};
 use crate::records::value::Value;
-use ss_block::{CertBlock, Group, Reading, Session, SigBlock, classify_with_session};
+use crate::texts::facts::put_facts;
+use crate::texts::named::Named;
+use ss_block::{
+    CertBlock, FullReading, Group, Reading, Session, SigBlock, classify_with_session, read_fully,
+};
 use ss_frame::Watched;
 use ss_message::Part;
 use ss_octets::NoMemory;
@@ -22,22 +31,147 @@ use ss_wrap::original;
 use std::alloc::Global;
 use std::io::Write;
 
-/// The text with the line of the message at this place after it. Places count the messages of the log from 0.
+/// The text with the line of the message at this place after it. Places count the messages of the log from 0. The line
+/// has facts where places are named.
 pub(crate) fn put_message(
     alloc: Global,
     text: Vec<u8>,
     place: u64,
     message: &[u8],
     form: InspectionForm,
+    named: &Option<Named>,
 ) -> Result<Vec<u8>, NoMemory>
-    ensures { IfOk result (λ v. v.items ≡ text.items ++ message_line form place message.now) }
+    ensures { IfOk result (λ v. v.items ≡ text.items ++ line_by form (names_of named.now) place message.now) }
 {
     let mut writer = Watched::new(text);
-    write_message(alloc, &mut writer, place, message, form)?;
+    write_line_by(alloc, &mut writer, place, message, form, named)?;
     if writer.failed() {
         return Err(NoMemory);
     }
     Ok(writer.into_inner())
+}
+
+/// Writes the line of a message at this place, with facts where places are named, unless the form leaves it out.
+fn write_line_by<W: Write>(
+    alloc: Global,
+    writer: &mut Watched<W>,
+    place: u64,
+    message: &[u8],
+    form: InspectionForm,
+    named: &Option<Named>,
+) -> Result<(), NoMemory>
+    ensures { OnOk result (Writes (sink_of W.contents writer.old) (sink_of W.contents writer.new)
+        (line_by form (names_of named.now) place message.now)) }
+{
+    match named {
+        None => write_message(alloc, writer, place, message, form),
+        Some(names) => { write_with_facts(alloc, writer, place, message, form, names.holds(place)) }
+    }
+}
+
+/// Writes the line of a message at this place with the facts about it, unless the form leaves it out.
+fn write_with_facts<W: Write>(
+    alloc: Global,
+    writer: &mut Watched<W>,
+    place: u64,
+    message: &[u8],
+    form: InspectionForm,
+    named: bool,
+) -> Result<(), NoMemory>
+    ensures { OnOk result (Writes (sink_of W.contents writer.old) (sink_of W.contents writer.new)
+        (facts_line form place message.now named)) }
+{
+    let read = read_fully(alloc, message)?;
+    let facts = Facts {
+        message,
+        read,
+        named,
+    };
+    match inside(alloc, message, form.unwrap)? {
+        Some(octets) => {
+            write_wrapped_facts(alloc, writer, place, octets, form.lines.notation(), &facts)
+        }
+        None => write_stored_facts(alloc, writer, place, form.lines, &facts),
+    }
+}
+
+/// A message, how it was read, and whether its place is named.
+#[derive(Drop)]
+struct Facts<'m> {
+    message: &'m [u8],
+    read: FullReading,
+    named: bool,
+}
+
+/// Writes the line of the wrap of these octets, which stands at this place, with the facts about it.
+fn write_wrapped_facts<W: Write>(
+    alloc: Global,
+    writer: &mut Watched<W>,
+    place: u64,
+    octets: &[u8],
+    notation: Notation,
+    facts: &Facts<'_>,
+) -> Result<(), NoMemory>
+    requires reading { facts.now.read.reading ≡ reading facts.now.message.now }
+    requires signed { facts.now.read.signed ≡ signed facts.now.message.now }
+    ensures { OnOk result (Writes (sink_of W.contents writer.old) (sink_of W.contents writer.new)
+        (wrapped_facts notation place facts.now.message.now facts.now.named octets.now)) }
+{
+    let (reading, session) = classify_with_session(alloc, octets)?;
+    begin(writer, notation, wrapped_kind_of(&reading));
+    put_reading(writer, notation, &reading, &session, place);
+    put_facts(
+        alloc,
+        writer,
+        notation,
+        facts.message,
+        &facts.read,
+        facts.named,
+    )?;
+    end(writer, notation);
+    Ok(())
+}
+
+/// Writes the line of a message as it stands, at this place, with the facts about it, unless the form leaves it out.
+fn write_stored_facts<W: Write>(
+    alloc: Global,
+    writer: &mut Watched<W>,
+    place: u64,
+    form: ReportForm,
+    facts: &Facts<'_>,
+) -> Result<(), NoMemory>
+    requires reading { facts.now.read.reading ≡ reading facts.now.message.now }
+    requires session { facts.now.read.session ≡ session facts.now.message.now }
+    requires signed { facts.now.read.signed ≡ signed facts.now.message.now }
+    ensures { OnOk result (Writes (sink_of W.contents writer.old) (sink_of W.contents writer.new)
+        (facts_of form place facts.now.message.now facts.now.named None)) }
+{
+    if form.has_findings_alone() && is_plain(&facts.read.reading) {
+        return Ok(());
+    }
+    write_all_facts(alloc, writer, place, form.notation(), facts)
+}
+
+/// Writes the line of a message as it stands, at this place, with the facts about it.
+fn write_all_facts<W: Write>(
+    alloc: Global,
+    writer: &mut Watched<W>,
+    place: u64,
+    notation: Notation,
+    facts: &Facts<'_>,
+) -> Result<(), NoMemory>
+    requires reading { facts.now.read.reading ≡ reading facts.now.message.now }
+    requires session { facts.now.read.session ≡ session facts.now.message.now }
+    requires signed { facts.now.read.signed ≡ signed facts.now.message.now }
+    ensures { OnOk result (Writes (sink_of W.contents writer.old) (sink_of W.contents writer.new)
+        (stored_facts notation place facts.now.message.now facts.now.named)) }
+{
+    let read = &facts.read;
+    begin(writer, notation, kind_of(&read.reading));
+    put_reading(writer, notation, &read.reading, &read.session, place);
+    put_facts(alloc, writer, notation, facts.message, read, facts.named)?;
+    end(writer, notation);
+    Ok(())
 }
 
 /// Writes the line of a message at this place, unless the form leaves it out.

@@ -2,7 +2,7 @@
 use super::Explanation;
 
 /// The numbers that a refusal prints.
-pub static REFUSALS: [Explanation; 33] = [
+pub static REFUSALS: [Explanation; 37] = [
     Explanation {
         code: "F1",
         text: "F1 OFFSET: the octet there can't stand in the length of a frame. A length begins with 1 to 9, goes on \
@@ -105,6 +105,26 @@ pub static REFUSALS: [Explanation; 33] = [
             --resume.",
     },
     Explanation {
+        code: "N1",
+        text: "N1 LINE: this line of the places file isn't a place: a number from 0 to 9999999, without a sign, spaces or \
+            leading zeros. An empty line is wrong too, and so is a CR at the end of a line. Only the first such line is \
+            named: mend it.",
+    },
+    Explanation {
+        code: "N2",
+        text: "The places file can't be opened, is a folder, or reading it failed. See that the path after --facts or \
+            --places is right, and that the file can be read.",
+    },
+    Explanation {
+        code: "N3",
+        text: "The last line of the places file has no line feed, as where a stop cut the file off: write it again. A \
+            file of more than 10000000 lines or 80000000 octets is refused too: leave out repeated places.",
+    },
+    Explanation {
+        code: "N4",
+        text: "There wasn't enough memory for the places. Give the program more memory, or leave out repeated places.",
+    },
+    Explanation {
         code: "V1",
         text: "There wasn't enough memory to review the log. Give the program more memory, or cut the log into parts. \
             Each part needs the certificate blocks of its session and the signature blocks that announce its messages. \
@@ -112,9 +132,9 @@ pub static REFUSALS: [Explanation; 33] = [
     },
     Explanation {
         code: "E1",
-        text: "E1 PLACE: --place asks for the message at this place, and the log ends before it. Places count the \
-            messages of the log from 0. Of several such places the lowest is named. See that the log is the one that \
-            the place is from; ssign inspect numbers its messages.",
+        text: "E1 PLACE: --place, or the file of --places, asks for the message at this place, and the log ends before \
+            it. Places count the messages of the log from 0. Of several such places the lowest is named. See that the \
+            log is the one that the place is from; ssign inspect numbers its messages.",
     },
     Explanation {
         code: "E2",

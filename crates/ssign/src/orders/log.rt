@@ -22,8 +22,9 @@ use std::alloc::Global;
 use std::io::{Read, Write};
 
 /// Carries out a command over a log, by its options and by the files that they name. Files are read in the order
-/// `--from`, `--counters`, `--pinned`, `--answers`, and the log after them. Without an answers file nobody answers for
-/// signatures. With `--ask` a review reads the log before the answers, and writes its questions to a file between them.
+/// `--from`, `--counters`, `--pinned`, `--facts`, `--places`, `--answers`, and the log after them. Without an answers
+/// file nobody answers for signatures. With `--ask` a review reads the log before the answers, and writes its questions
+/// to a file between them.
 ///
 /// # Errors
 ///
@@ -128,6 +129,7 @@ fn run_answered<R: Read, W: Write>(
         first,
         counters,
         known,
+        facts,
     } = asked;
     let request = TaskRequest {
         task,
@@ -135,6 +137,7 @@ fn run_answered<R: Read, W: Write>(
         known: items_of(&known),
         first: items_of(&first),
         counters: items_of(&counters),
+        facts,
         extraction,
         reading,
     };

@@ -14,11 +14,18 @@ pub returns-in-Err-answers_in-clause-ends : goal.returns-in-Err-answers_in-claus
 returns-in-Err-answers_in-clause-ends g c =
     let files = g.F.GivenFiles.contents c.args.files.now in
     let asked = c.in-Ok.ensures in (
-      (c.in-Ok.asked.reading, asked.reading),
-      (c.in-Ok.asked.extraction, asked.extraction),
-      (c.in-Ok.asked.first, asked.first),
-      (c.in-Ok.asked.counters, asked.counters),
-      (c.in-Ok.asked.known, asked.known),
+      record {
+        reading = (c.in-Ok.asked.reading, asked.reading);
+        extraction = (asked.extraction.named, asked.extraction.is_named);
+        objects = asked.objects;
+      },
+      record {
+        first = (c.in-Ok.asked.first, asked.first);
+        counters = (c.in-Ok.asked.counters, asked.counters);
+        known = (c.in-Ok.asked.known, asked.known);
+      },
+      (c.in-Ok.asked.facts, asked.facts),
+      (asked.extraction.places, asked.extraction.given),
       at_path files.answers (Err c.in-Err-answers_in.fault) c.answers_file.ensures c.in-Err-answers_in.ensures,
     )
 
