@@ -172,7 +172,9 @@ def cases(known):
     reviewed = {"sha1": hashes, "sha256": hashes, "parsed": blocks, "reviews": 1}
     # the certificate block to accept the payload, and each of the blocks to verify it
     asked = {"asked": 1 + 1 + blocks // 2, "files": 1}
-    for words in (["review"], ["review", "--tally"], ["review", "--whole"], ["extract"], ["counters"], ["carry"]):
+    in_front = ["--brief", "--blocks", "--no-sha1", "--some-listed"]
+    for words in (["review"], ["review", "--tally"], ["review", "--whole"], ["review", *in_front], ["extract"], ["counters"],
+                  ["carry"]):
         parsed = (2 if words == ["carry"] else 1) * blocks
         yield " ".join(words), words, octets, joined.answers, None, {**reviewed, **asked, "parsed": parsed}
     # a known payload is asked about, and certificate blocks under it, before the review, which then asks as ever

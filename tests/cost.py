@@ -56,9 +56,9 @@ TUNED = {"GLIBC_TUNABLES": "glibc.cpu.x86_rep_movsb_threshold=1000000000:glibc.c
 # the most octets that are taken at one time: two buffers, of which that of standard output is made before the command line
 # is read, and the command line; one buffer more for a file that an option names, and so many more for each octet that is
 # read or written
-ROOM, ROOM_OF_FILE, ROOM_FOR_EACH = 176 << 10, 1 << 16, 24
+ROOM, ROOM_OF_FILE, ROOM_FOR_EACH = 184 << 10, 1 << 16, 24
 # the same of all that is ever taken
-SPENT, SPENT_FOR_EACH = 512 << 10, 40
+SPENT, SPENT_FOR_EACH = 528 << 10, 40
 # how much one read asks for
 BUFFER = 1 << 16
 # how often room is taken at most for messages of which nothing is kept
@@ -66,28 +66,28 @@ FEW_CALLS = 100
 # a run that takes more seconds hangs, however busy the machine is
 PATIENCE = 300
 COMMANDS = (REVIEW, WHOLE, KEPT, NIGHT, TALLY, EXTRACT, UNLISTED, UNWRAPPED, QUESTIONS, ONCE, OBJECTS, INSPECT, ORIGINALS, PLAN,
-            AHEAD, RESUMED, SIGN, COUNTERS, CARRY, PINNED, ASKED, COUNTED, SALVAGED, LOOKED, SAVED, SHOWN, PLACED) = (
+            AHEAD, RESUMED, SIGN, COUNTERS, CARRY, PINNED, ASKED, COUNTED, SALVAGED, LOOKED, SAVED, SHOWN, PLACED, FRONT) = (
     "review", "review --whole", "review --counters", "review --from", "review --tally", "extract", "extract --unlisted",
     "extract --unlisted --unwrap", "questions", "questions --once", "questions --once --json", "inspect", "inspect --unwrap",
     "plan", "plan --ahead", "plan --ahead --resume", "sign", "counters", "carry", "review --pinned", "questions --once --pinned",
     "counters --pinned", "review --salvage", "inspect --salvage", "carry --salvage",
-    "inspect --json --facts", "extract --places")
+    "inspect --json --facts", "extract --places", "review --brief --blocks --no-sha1 --some-listed")
 BY_KNOWN = (PINNED, ASKED, COUNTED)
 # those that make a review, and need no file but the log
-REVIEWS = [REVIEW, WHOLE, TALLY, EXTRACT, UNLISTED, UNWRAPPED, COUNTERS, CARRY, SALVAGED, SAVED]
+REVIEWS = [REVIEW, WHOLE, TALLY, FRONT, EXTRACT, UNLISTED, UNWRAPPED, COUNTERS, CARRY, SALVAGED, SAVED]
 
 # each shape, how large its smaller input is, the commands whose steps are counted, and those of which the rest is
 SHAPES = [
-    (logs.signed, 900, [REVIEW, QUESTIONS, EXTRACT, INSPECT, SALVAGED], [COUNTERS, TALLY, CARRY, SAVED]),
+    (logs.signed, 900, [REVIEW, QUESTIONS, EXTRACT, INSPECT, SALVAGED], [COUNTERS, TALLY, FRONT, CARRY, SAVED]),
     (logs.placed, 900, [SHOWN, PLACED], []),
     (logs.placed_often, 3000, [PLACED], [SHOWN]),
-    (logs.unanswered, 900, [CARRY], [REVIEW, EXTRACT, UNLISTED]),
+    (logs.unanswered, 900, [CARRY], [REVIEW, FRONT, EXTRACT, UNLISTED]),
     (logs.by_sha256, 900, [], [REVIEW]),
     (logs.falling, 900, [], [WHOLE, QUESTIONS, EXTRACT, CARRY]),
     (logs.equal, 900, [REVIEW], [EXTRACT]),
     (logs.one_hash, 900, [REVIEW], [EXTRACT, CARRY]),
     (logs.hashes_alike, 450, [REVIEW], []),
-    (logs.sessions, 900, [COUNTERS, QUESTIONS, ONCE], [REVIEW, EXTRACT, CARRY, OBJECTS]),
+    (logs.sessions, 900, [FRONT, COUNTERS, QUESTIONS, ONCE], [REVIEW, EXTRACT, CARRY, OBJECTS]),
     (logs.hosts_alike, 900, [REVIEW], [QUESTIONS, ONCE]),
     (logs.payloads_apart, 900, [ONCE], [QUESTIONS, OBJECTS]),
     (logs.groups, 768, [REVIEW, COUNTERS, CARRY], [TALLY]),
@@ -106,14 +106,14 @@ SHAPES = [
     (logs.repeated, 900, [WHOLE, QUESTIONS], [EXTRACT]),
     (logs.overlapping, 900, [REVIEW], [CARRY]),
     (logs.lost_often, 900, [CARRY], []),
-    (logs.lost_in_each, 1980, [CARRY], []),
+    (logs.lost_in_each, 1980, [CARRY], [FRONT]),
     (logs.signatures, 900, [WHOLE], []),
     (logs.fragments_rising, 900, [ONCE, OBJECTS], [REVIEW, QUESTIONS, EXTRACT]),
     (logs.large_payload, 24, [ONCE], [OBJECTS, QUESTIONS]),
     (logs.fragments_falling, 1800, [REVIEW], []),
     (logs.fragments_shuffled, 900, [REVIEW], []),
     (logs.copies, 900, [REVIEW], []),
-    (logs.copies_joined, 900, [CARRY], [REVIEW, QUESTIONS]),
+    (logs.copies_joined, 900, [CARRY], [FRONT, REVIEW, QUESTIONS]),
     (logs.fragments_apart, 896, [REVIEW, CARRY], []),
     (logs.scattered, 900, [], [REVIEW, QUESTIONS]),
     (logs.stated, 900, [], [REVIEW]),
@@ -183,7 +183,7 @@ AS_WRITTEN = {(logs.fragments_rising, QUESTIONS), (logs.large_payload, QUESTIONS
 # logs of a few blocks, sessions or groups, over which room that is taken for each of them is more than what they hold
 FEW = [
     (logs.shortest, 10, [REVIEW, INSPECT, SALVAGED, LOOKED]),
-    (logs.signed, 10, [REVIEW, WHOLE, EXTRACT, QUESTIONS, INSPECT, COUNTERS, CARRY, SALVAGED, LOOKED, SAVED]),
+    (logs.signed, 10, [REVIEW, WHOLE, FRONT, EXTRACT, QUESTIONS, INSPECT, COUNTERS, CARRY, SALVAGED, LOOKED, SAVED]),
     (logs.sessions, 10, [REVIEW, COUNTERS, QUESTIONS, ONCE, CARRY]),
     (logs.one_hash, 10, [REVIEW, CARRY]),
     (logs.groups, 10, [REVIEW, COUNTERS, CARRY]),

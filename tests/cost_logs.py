@@ -94,6 +94,16 @@ class Input:
         counts = {"%s-count" % it: 1 for it in ("unlisted", "refused", "spoilt")}
         return self.say("review --tally", status, {**words, **counts, "end": 1})
 
+    def in_front(self, status, signatures, certificates, **words):
+        """The lines of a report in brief, after those of so many blocks."""
+        blocks = {"signature-block": signatures, "certificate-block": certificates}
+        told = {it: count for it, count in {**blocks, **words}.items() if count}
+        self.say("review --brief --blocks --no-sha1 --some-listed", status, {**told, "end": 1})
+
+    def none_listed(self, signatures, certificates, **words):
+        """The same, if nothing is listed."""
+        self.in_front(1, signatures, certificates, **words, **{"none-listed": 1})
+
     def asked(self, trust, yes, payload):
         """The lines of questions, and of those with each payload once."""
         self.say("questions", 0, {"trust?": trust, "yes?": yes})
@@ -135,6 +145,7 @@ def nothing(n=0):
     made.kept(0)
     made.night(0)
     made.tally(0)
+    made.none_listed(0, 0)
     return made.review(0)
 
 
@@ -155,6 +166,7 @@ def signed(n):
     made.say("carry", 0, 1)
     made.say("counters", 0, {"count": 2, "end": 1})
     made.tally(0, session=1, tally=1)
+    made.in_front(1, n // 10, 1, sha1=1, session=1, ok=1, tally=1)
     return made.say("inspect", 0, {"certificate": 1, "plain": n, "signature": n // 10, "end": 1})
 
 
@@ -185,6 +197,7 @@ def unanswered(n):
     made.say("counters", 0, {"end": 1})
     made.whole(1, session=1, unlisted=n, refused=1 + n // 10)
     made.tally(1, session=1)
+    made.none_listed(n // 10, 1, session=1, unlisted=n, refused=1 + n // 10)
     return made.review(1, session=1, unlisted=n, refused=1 + n // 10)
 
 
@@ -257,6 +270,7 @@ def sessions(n):
     made.say("extract", 1, 0)
     made.say("counters", 0, {"count": 2 * n, "end": 1})
     made.say("carry", 0, 2 * n)
+    made.none_listed(n, n, sha1=1, session=n, gap=n, tally=n)
     return made.review(1, session=n, gap=n)
 
 
@@ -456,6 +470,7 @@ def lost_in_each(n):
         made.put(*texts[1:])
         made.put_block(announcing(*texts, first=first, gbc=first // 99))
     made.say("carry", 0, 1 + n)
+    made.in_front(1, n // 99, 1, sha1=1, session=1, ok=2 * (n // 99), gap=n // 99, tally=1)
     return made.review(1, session=1, ok=n - n // 99, gap=n // 99)
 
 
@@ -510,6 +525,7 @@ def copies_joined(n):
         made.put_block(certificate(), i == 0)
     made.say("questions", 0, {"trust?": 1, "yes?": n})
     made.say("carry", 0, 1)
+    made.none_listed(0, n, session=1)
     return made.review(0, session=1)
 
 
@@ -628,6 +644,7 @@ def shortest(n):
     made.say("counters", 0, {"end": 1})
     made.whole(1, unlisted=n)
     made.tally(1)
+    made.none_listed(0, 0, unlisted=n)
     return made.review(1, unlisted=n)
 
 

@@ -238,6 +238,7 @@ def main():
             ran = subprocess.run([PROGRAM, "review", f"{word}={value}"], input=log, capture_output=True, check=False)
             tell(f"{word} with a value", "" if ran.returncode == 2 and ran.stderr and not ran.stdout else repr(ran))
         for words in (["extract", "--json"], ["extract", "--findings"], ["questions", "--findings"], ["counters", "--findings"],
+                      *([it, f"--{word}"] for it in ("inspect", "counters", "extract") for word in ("brief", "blocks", "no-sha1", "some-listed")),
                       ["review", "--once"], ["extract", "--once"], ["inspect", "--once"], ["counters", "--once"],
                       ["questions", "--once=x"], ["questions", "--once", "--once"], ["inspect", "--pinned", os.devnull],
                       ["plan", "--pinned", os.devnull], ["carry", "--pinned", os.devnull],
@@ -262,9 +263,11 @@ def main():
             said = run(command, b"x" + log, "--json")
             tell(f"a refusal of {command}", "" if said == (2, b"ssign: F1 0\n") else repr(said))
         # the lines `blocks` are those of `--whole`, `tail` of `--counters`, `early` and `beyond` of `--from`, counts those of
-        # `--tally`, and `disorder` and `empty` those of their options: tests/whole.py, kept.py, between.py, tally.py and order.py
+        # `--tally`, and `disorder`, `empty` and those in front of a report those of their options: tests/whole.py, kept.py,
+        # between.py, tally.py, order.py and brief.py
         wanted = {*KEYS, *OTHER_KEYS} - {"blocks", "tail", "early", "beyond", "tally", "unlisted-count", "refused-count",
-                                         "spoilt-count", "damaged-count", "disorder", "empty"}
+                                         "spoilt-count", "damaged-count", "disorder", "empty", "signature-block",
+                                         "certificate-block", "sha1", "none-listed"}
         tell("each kind of line was seen", "" if words_seen == wanted else f"{wanted ^ words_seen}")
     print(f"forms: {passed} passed, {failed} failed")
     return 1 if failed else 0

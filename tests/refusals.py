@@ -26,6 +26,7 @@ import threading
 
 import cost_logs as logs
 from between import between_text
+from brief import OPTIONS as IN_FRONT, brief_text, front_text, verified_places
 from counters import counters_text
 from kept import kept_text, status_of as kept_status_of
 from nights import Told, carried
@@ -273,6 +274,19 @@ def tallies():
     for words in (["--tally", "--json", "--whole"], ["--json"], ["--findings", "--json"]):
         yield Case("review %s of everything" % " ".join(words), ["review", *words], octets, 1, text, counters=ended(KEPT))
     yield Case("counters --json of everything", ["counters", "--json"], octets, 0, text)
+
+
+def in_front():
+    """Reviews in brief, with all lines in front of the report."""
+    everything = answers_of(EVERYTHING, (lambda payload: payload == P1, accepted))
+    octets, text, log = b"".join(map(frame, EVERYTHING)), answers_text(*everything), Log(EVERYTHING)
+    plain = report_text(review(log, *everything))
+    front = front_text(log.blocks, verified_places(log, *everything), plain, IN_FRONT)
+    wanted = Said(1, joined(front + brief_text(plain)), b"")
+    yield Case("review in brief of everything", ["review", *IN_FRONT], octets, wanted, text)
+    yield Case("review in brief, whose questions are asked", ["review", "--ask", os.devnull, *IN_FRONT], octets, wanted, text)
+    yield Case("review in brief of everything, as objects", ["review", "--json", "--whole", *IN_FRONT], octets, 1, text)
+    yield Case("review in brief of an empty log", ["review", *IN_FRONT], b"", Said(1, b"none-listed\nend 0\n", b""))
 
 
 def salvaged():
@@ -660,8 +674,8 @@ def main():
     parser.add_argument("library", nargs="?", default="")
     parser.add_argument("--show", action="store_true")
     given = parser.parse_args()
-    cases = [case for make in (reviews, kept_reviews, night_reviews, known_reviews, asked_first, tallies, salvaged, extracts, inspections,
-                               answers, signings, resumed_signings, wrapped_signings, refused_signings, others, long_outputs)
+    cases = [case for make in (reviews, kept_reviews, night_reviews, known_reviews, asked_first, tallies, in_front, salvaged, extracts,
+                               inspections, answers, signings, resumed_signings, wrapped_signings, refused_signings, others, long_outputs)
              for case in make()]
     first = cases[0].wanted.out.decode().splitlines()
     for word in WORDS:

@@ -28,6 +28,10 @@ KEYS = {
 }
 # those of the other lines; two kinds have one word
 OTHER_KEYS = {
+    "signature-block": [["place", "verified", *SESSION, "ver", "sg", "spri", "gbc", "first", "count"]],
+    "certificate-block": [["place", "verified", *SESSION, "ver", "sg", "spri", "total", "index", "length"]],
+    "sha1": [["place"]],
+    "none-listed": [[]],
     "tally": [[*GROUP, "ok", "lost", "disputed", "holes", "first", "last"]],
     "disorder": [[*GROUP, "count", "number", "place"]],
     "empty": [[]],
@@ -48,7 +52,9 @@ OTHER_KEYS = {
 # of a wrap, what its original is
 OTHER_KEYS.update({f"wrapped-{word}": keys for word, keys in [*OTHER_KEYS.items(), ("spoilt", [KEYS["spoilt"]])]
                    if word in ("plain", "unparsed", "signature", "certificate", "spoilt")})
-TEXTS = {"line", "host", "app", "procid", "state", "why", "cause", "part", "payload", "octets", "signature", "ver"}
+TEXTS = {"line", "host", "app", "procid", "state", "why", "cause", "part", "payload", "octets", "signature", "ver", "verified"}
+# the octets of a stretch are counted, and those of a question are a text
+NUMBERS = {("damaged-count", "octets")}
 # how many of its values a plain question has, the word among them
 PLAIN = {"trust?": 2, "yes?": 4}
 
@@ -71,7 +77,7 @@ def plain_of(line):
     if [key for key, _ in pairs] not in [["line", *keys] for keys in OTHER_KEYS.get(word) or [KEYS[word]]]:
         return b"", f"the keys {[key for key, _ in pairs]}"
     for key, value in pairs:
-        if type(value) is not (str if key in TEXTS else int):
+        if type(value) is not (str if key in TEXTS and (word, key) not in NUMBERS else int):
             return b"", f"{key} is {value!r}"
     if json.dumps(dict(pairs), separators=(",", ":")).encode() != line:
         return b"", "an escape or a space that isn't needed"

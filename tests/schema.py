@@ -33,7 +33,7 @@ HAS_KEYS = importlib.util.find_spec("cryptography") is not None
 HAS_OPENSSL = shutil.which("openssl") is not None
 Path = Tuple[Any, ...]
 # how many command lines there are, by what they need beside those in front
-LINES = {"jsonschema": 35, "cryptography": 46, "openssl": 6}
+LINES = {"jsonschema": 37, "cryptography": 46, "openssl": 6}
 # without these keys an object is one of another run, and so is an `end` without its count
 MAY_LACK = {"from", "missing_up_to_counters", "missing_blocks", "left_out", "stamped"}
 # an object of a line with facts may lack these, because they aren't true of its message, or its place isn't named

@@ -8,3 +8,6 @@ pub mod OutsideLines
 pub mod NightLines
 pub mod IdleSessions
 pub mod SettledReports
+pub mod BriefLines
+pub mod FirstFound
+pub mod FrontLines

@@ -1,9 +1,11 @@
 pub mod Tally
+pub mod Brief
 pub mod Lines
 pub mod Taken
 pub mod Settled
 pub mod Listed
 pub mod Order
 pub mod Whole
+pub mod Front
 pub mod Between
 pub mod Records

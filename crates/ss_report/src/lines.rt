@@ -1,5 +1,7 @@
 //! The lines of a report: what one is, the one walk that hands them on, and their visitors.
+pub(crate) mod brief;
 pub(crate) mod detail;
+pub(crate) mod front;
 pub(crate) mod idle;
 pub(crate) mod left;
 pub(crate) mod line;

@@ -9,6 +9,7 @@ pub mod Kept
 pub mod KeptBlock
 pub mod KeptFields
 pub mod Keeping
+pub mod LogBlocks
 pub mod Signatures
 pub mod Stated
 pub mod Stored

@@ -3,6 +3,7 @@ pub(crate) mod block_message;
 pub(crate) mod kept_block;
 pub(crate) mod kept_content;
 pub(crate) mod kept_sender;
+pub(crate) mod log_blocks;
 pub(crate) mod message;
 pub(crate) mod noted;
 pub(crate) mod packed;

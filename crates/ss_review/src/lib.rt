@@ -22,6 +22,7 @@ pub use counted::log_shortfalls::log_shortfalls;
 pub use counted::missing::{MissingRun, MissingRuns, missing_runs, next_gbc};
 pub use counted::shortfall::{GroupTail, GroupTails, LogShortfalls, Shortfall, Shortfalls};
 pub use fault::ReviewFault;
+pub use keep::log_blocks::{LogBlock, LogBlocks};
 pub use keep::reviewer::Reviewer;
 pub use keep::spoilt::{SpoiltPlace, SpoiltPlaces};
 pub use questions::asked::{AskedBlock, AskedSession, AskedSessions};

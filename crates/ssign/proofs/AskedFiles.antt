@@ -1,5 +1,5 @@
 -- How commands over a log end where nothing is asked of it, and where a review writes its questions to a file.
-use Rattle.std.proofs.Common.{◌≡◌, ◌≢◌, ℕ, Bool, true, false, not, ◌&&◌, List, Option, Some, None, Result, Ok, Err, subst, inl, inr, refl, ap}
+use Rattle.std.proofs.Common.{◌≡◌, ℕ, Bool, true, false, not, ◌&&◌, List, Option, Some, None, Result, Err, subst, refl}
 use Rattle.clap.specs.declared.parser.matches.ArgMatches.{ArgMatches}
 use Rattle.ss_frame.specs.Watched.{Source, Sink}
 use Rattle.ss_report.specs.declared.log.read_options.ReadOptions.{ReadOptions}

@@ -1,5 +1,5 @@
 -- What is read of a flag.
-use Rattle.std.proofs.Common.{◌≡◌, ◌≢◌, ◌∙◌, List, ℕ, Bool, true, false, Option, Some, None, codes, ap, refl, sym}
+use Rattle.std.proofs.Common.{◌≡◌, ◌∙◌, List, ℕ, Bool, true, false, Option, Some, None, codes, ap, refl, sym}
 use Rattle.std.specs.Prelude.{Decides, unwrap_or}
 use Rattle.std.specs.Str.{bytes_eq}
 use Rattle.std.specs.Str.Parse.{ParsesBool, false_text, true_text}

@@ -1,5 +1,5 @@
 -- The command that matches name.
-use Rattle.std.proofs.Common.{◌≡◌, ℕ, List, Option, Some, None, ap₂, sym}
+use Rattle.std.proofs.Common.{◌≡◌, ℕ, List, Option, Some, None}
 use Rattle.std.specs.Prelude.{Box, option_map}
 use Rattle.std.specs.Box.{box_value}
 use Rattle.clap.specs.Words.{Row, subcommand_name_of, subcommand_rows_of}

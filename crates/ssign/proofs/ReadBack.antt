@@ -8,7 +8,7 @@ use Rattle.ss_review.specs.sessions.Verified.{Answers}
 use Rattle.ss_report.specs.runs.CounterLaws.{CountersAreTheLogs}
 use Rattle.ss_report.specs.forms.Forms.{line_as}
 use Rattle.ss_report.specs.runs.Jobs.{counting}
-use Rattle.ss_report.specs.lines.Between.{lines_between}
+use Rattle.ss_report.specs.lines.Between.{front_by, lines_between}
 use Rattle.ss_report.specs.Verdict.{lines_verdict}
 use Rattle.ss_report.specs.lines.Lines.{itemizing}
 use Rattle.ss_report.specs.declared.notation.Notation.TheVariants.{Plain}
@@ -19,9 +19,9 @@ changes_nothing : LogCountersAddNothing → CountersGivenBack
     → (says : Answers) (log : List (List ℕ)) → ChangeNothing says log (log_counters says log)
 changes_nothing nothing given_back says log = record {
   output = λ form detail tail.
-      ap (λ short. flat_map (line_as form) (lines_between detail None None (report says log) short tail)) (nothing says log);
+      ap (λ short. flat_map (line_as form) (front_by None detail says log ++ lines_between detail None None (report says log) short tail)) (nothing says log);
   verdict = λ form detail tail.
-      ap (λ short. lines_verdict (lines_between (itemizing detail) None None (report says log) short tail)) (nothing says log);
+      ap (λ short. lines_verdict (front_by None detail says log ++ lines_between (itemizing detail) None None (report says log) short tail)) (nothing says log);
   missing = given_back says log;
 }
 

@@ -1,5 +1,5 @@
 -- The exit status of what a run comes to.
-use Rattle.std.proofs.Common.{◌≡◌, ◌≢◌, ◌∙◌, ◌⊎◌, ◌≤◌, ℕ, List, Option, Some, None, Result, Ok, Err, ap, refl, sym, subst, inl, inr, arith}
+use Rattle.std.proofs.Common.{◌≡◌, ◌∙◌, ◌⊎◌, ◌≤◌, ℕ, List, Option, Some, None, Result, Ok, Err, ap, refl, subst, inl, inr, arith}
 use Rattle.clap.specs.Words.{IsAmong, Kinds, Row, Text, kind_of}
 use Rattle.clap.specs.declared.error.kind.ErrorKind.{ErrorKind}
 use Rattle.clap.specs.declared.error.kind.ErrorKind.TheVariants as kinds
@@ -9,7 +9,7 @@ use Rattle.ss_report.specs.declared.verdict.verdict.Verdict.{Verdict}
 use Rattle.ss_report.specs.declared.verdict.verdict.Verdict.TheVariants.{Clean, Findings}
 use Rattle.ssign.specs.CommandLine.{AreMistaken, IsUsageFault, order_in, status_of}
 use Rattle.ssign.specs.GivenFiles.{Files}
-use Rattle.ssign.specs.Outcome.{IsKindOf, IsMistaken, IsRefused, IsTaken, IsToldBy, RunsNamed, RunsOrder, RunsWords, silent, status_of_kind}
+use Rattle.ssign.specs.Outcome.{IsKindOf, IsRefused, RunsNamed, RunsOrder, RunsWords, silent, status_of_kind}
 use Rattle.ssign.specs.declared.command_line.Order.{Order}
 use Rattle.ssign.specs.declared.explanations.Tables.{Tables}
 use Rattle.ssign.specs.declared.outcome.Outcome.{Outcome}

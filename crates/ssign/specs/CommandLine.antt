@@ -64,16 +64,22 @@ report_form true false = forms.Findings
 report_form false true = forms.Json
 report_form true true = forms.JsonFindings
 
--- whether a report lists each item or tallies, without or with `--tally`
-abbrev pub listing_of : Bool → Listing
-listing_of true = listings.Tally
-listing_of false = listings.Itemized
+-- whether a report lists each item, tallies, or both in brief, with or without `--tally` and `--brief`
+abbrev pub listing_of : (tally brief : Bool) → Listing
+listing_of true brief = listings.Tally
+listing_of false true = listings.Brief
+listing_of false false = listings.Itemized
 
--- what a report lists, and what it takes for a finding besides, with or without `--tally`, `--in-order` and
--- `--not-empty`
-abbrev pub detail_of : (tally in_order not_empty : Bool) → Detail
-detail_of tally in_order not_empty =
-    record { listing = listing_of tally; in_order = in_order; not_empty = not_empty }
+-- what a report lists, and what it takes for a finding besides, by the flags
+abbrev pub detail_in : ArgMatches → Detail
+detail_in m = record {
+  listing = listing_of (is_given m (codes "tally")) (is_given m (codes "brief"));
+  in_order = is_given m (codes "in-order");
+  not_empty = is_given m (codes "not-empty");
+  some_listed = is_given m (codes "some-listed");
+  no_sha1 = is_given m (codes "no-sha1");
+  blocks = is_given m (codes "blocks");
+}
 
 -- how often a payload is written, with or without `--once`
 abbrev pub payloads_of : Bool → Payloads
@@ -126,7 +132,9 @@ name_of Explain = codes "explain"
 abbrev pub own_rules : Order → List Rule
 own_rules (Log Review) =
     text_rule (codes "answers") ∷ text_rule (codes "ask") ∷ flag_rule (codes "findings") ∷ flag_rule (codes "json")
-    ∷ flag_rule (codes "whole") ∷ flag_rule (codes "tally") ∷ flag_rule (codes "in-order") ∷ flag_rule (codes "not-empty")
+    ∷ flag_rule (codes "whole") ∷ flag_rule (codes "tally") ∷ flag_rule (codes "brief") ∷ flag_rule (codes "blocks")
+    ∷ flag_rule (codes "in-order") ∷ flag_rule (codes "not-empty") ∷ flag_rule (codes "some-listed")
+    ∷ flag_rule (codes "no-sha1")
     ∷ text_rule (codes "counters") ∷ text_rule (codes "from") ∷ text_rule (codes "pinned") ∷ flag_rule (codes "salvage")
     ∷ []
 own_rules (Log Questions) =

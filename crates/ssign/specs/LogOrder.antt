@@ -11,7 +11,7 @@ use Rattle.ss_report.specs.declared.runs.extraction.Extraction.{Extraction}
 use Rattle.ss_report.specs.declared.verdict.verdict.Verdict.{Verdict}
 use Rattle.ss_report.specs.runs.Run.{Job, Runs, Stops}
 use Rattle.ss_answers.specs.Answers.{Answer, Rise, trusted, valid}
-use Rattle.ssign.specs.CommandLine.{HasNumber, detail_of, form_of, is_given, reporting}
+use Rattle.ssign.specs.CommandLine.{HasNumber, detail_in, form_of, is_given, reporting}
 use Rattle.ssign.specs.Extraction.{GivesExtraction, IsAt, texts_given}
 use Rattle.ssign.specs.GivenFiles.{Contents, Gives}
 use Rattle.ssign.specs.Task.{job_of}
@@ -62,8 +62,7 @@ ArePlainFacts m = (is_some (path_in m (codes "facts")) ≡ true) × (is_given m 
 abbrev pub IsReporting : ArgMatches → Reporting → Type 0
 IsReporting m r = r ≡ reporting (is_given m (codes "findings")) (is_given m (codes "json"))
     (is_given m (codes "whole") || is_some (path_in m (codes "counters")) || is_some (path_in m (codes "from")))
-    (detail_of (is_given m (codes "tally")) (is_given m (codes "in-order")) (is_given m (codes "not-empty")))
-    (is_given m (codes "once")) (is_given m (codes "unwrap"))
+    (detail_in m) (is_given m (codes "once")) (is_given m (codes "unwrap"))
 
 -- ---- what is asked
 

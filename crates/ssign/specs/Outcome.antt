@@ -23,7 +23,7 @@ use Rattle.ssign.specs.declared.command_line.Order.{Order}
 use Rattle.ssign.specs.declared.explanations.Tables.{Tables}
 use Rattle.ssign.specs.declared.extraction.ExtractionFault.TheVariants as extraction
 use Rattle.ssign.specs.declared.outcome.Notice.{Notice}
-use Rattle.ssign.specs.declared.outcome.Notice.TheVariants.{Nothing, Refused, Unexplained, Words, Parsed}
+use Rattle.ssign.specs.declared.outcome.Notice.TheVariants.{Nothing, Refused, Unexplained, Parsed}
 use Rattle.ssign.specs.declared.outcome.Outcome.{Outcome}
 use Rattle.ssign.specs.declared.refusal.Refusal.{Refusal}
 use Rattle.ssign.specs.declared.refusal.Refusal.TheVariants as refusals

@@ -4,7 +4,7 @@ ghost use Rattle.std.specs.Prelude.{map, option_and_then, option_map};
 ghost use Rattle.std.specs.Option.{SomeIff, is_some};
 ghost use Rattle.clap.specs.Words.{App, app_of, first_value, found_of, kind_of, matched_of, new_app, raw_values};
 ghost use Rattle.ss_frame.specs.Limits.{InRange};
-ghost use Rattle.ssign.specs.CommandLine.{HasNumber, IsLocalApp, bare_app, detail_of, form_of, is_given, limits_with};
+ghost use Rattle.ssign.specs.CommandLine.{HasNumber, IsLocalApp, bare_app, detail_in, form_of, is_given, limits_with};
 ghost use Rattle.ssign.specs.CommandLine.{listing_of};
 ghost use Rattle.ssign.specs.CommandLine.{name_of, order_app, order_in, own_rules, payloads_of, reading, report_form};
 ghost use Rattle.ssign.specs.CommandLine.{reporting, shared_rules, ssign_app, text_of, with_commands, with_rules};
@@ -381,12 +381,14 @@ fn form_of_report(matches: &ArgMatches<'_>) -> ReportForm
     }
 }
 
-/// Whether the flag asks for tallies. A command without it lists each item.
+/// Whether the flags ask for tallies, or for both in brief. A command without them lists each item.
 fn listing_of_report(matches: &ArgMatches<'_>) -> Listing
-    ensures { result ≡ listing_of (is_given matches.now (codes "tally")) }
+    ensures { result ≡ listing_of (is_given matches.now (codes "tally")) (is_given matches.now (codes "brief")) }
 {
     if is_given(matches, options::TALLY.name) {
         Listing::Tally
+    } else if is_given(matches, options::BRIEF.name) {
+        Listing::Brief
     } else {
         Listing::Itemized
     }
@@ -394,13 +396,15 @@ fn listing_of_report(matches: &ArgMatches<'_>) -> Listing
 
 /// What a report lists, and what it takes for a finding besides.
 fn detail_of_report(matches: &ArgMatches<'_>) -> Detail
-    ensures { result ≡ detail_of (is_given matches.now (codes "tally")) (is_given matches.now (codes "in-order"))
-        (is_given matches.now (codes "not-empty")) }
+    ensures { result ≡ detail_in matches.now }
 {
     Detail {
         listing: listing_of_report(matches),
         in_order: is_given(matches, options::IN_ORDER.name),
         not_empty: is_given(matches, options::NOT_EMPTY.name),
+        some_listed: is_given(matches, options::SOME_LISTED.name),
+        no_sha1: is_given(matches, options::NO_SHA1.name),
+        blocks: is_given(matches, options::BLOCKS.name),
     }
 }
 
@@ -421,9 +425,7 @@ pub fn reporting_of(matches: &ArgMatches<'_>) -> Reporting
     ensures { result ≡ reporting (is_given matches.now (codes "findings")) (is_given matches.now (codes "json"))
         (is_given matches.now (codes "whole") || is_some (first_value (found_of matches.now) (codes "counters"))
         || is_some (first_value (found_of matches.now) (codes "from")))
-        (detail_of (is_given matches.now (codes "tally")) (is_given matches.now (codes "in-order"))
-        (is_given matches.now (codes "not-empty"))) (is_given matches.now (codes "once"))
-        (is_given matches.now (codes "unwrap")) }
+        (detail_in matches.now) (is_given matches.now (codes "once")) (is_given matches.now (codes "unwrap")) }
 {
     Reporting {
         form: form_of_report(matches),

@@ -132,6 +132,23 @@ pub const TALLY: OptionRow = OptionRow {
     ..FLAG
 };
 
+/// `--brief`: no line for a listed message, unless it stands beside a number that isn't listed, or is the last one.
+pub const BRIEF: OptionRow = OptionRow {
+    name: "brief",
+    help: "Leaves out the ok lines, but for those right before or after a gap or hole line, and one that is the last \
+        line of its group, and adds the tally line of each group; the status stays as it is; with --tally it changes \
+        nothing",
+    ..FLAG
+};
+
+/// `--blocks`: a line for each block.
+pub const BLOCKS: OptionRow = OptionRow {
+    name: "blocks",
+    help: "Also writes a line for each block of the log, in front: whether it is verified, and what it says about \
+        itself; the status stays as it is",
+    ..FLAG
+};
+
 /// `--in-order`: the order of the listed messages is looked at too.
 pub const IN_ORDER: OptionRow = OptionRow {
     name: "in-order",
@@ -144,6 +161,21 @@ pub const IN_ORDER: OptionRow = OptionRow {
 pub const NOT_EMPTY: OptionRow = OptionRow {
     name: "not-empty",
     help: "Also reports that the log has no message, if that is so; this line is a finding",
+    ..FLAG
+};
+
+/// `--some-listed`: a log without a listed message is a finding.
+pub const SOME_LISTED: OptionRow = OptionRow {
+    name: "some-listed",
+    help: "Also reports that no message is listed, if that is so; this line is a finding",
+    ..FLAG
+};
+
+/// `--no-sha1`: verified signature blocks whose hashes are by SHA-1 are a finding (RFC 5848, section 4.2.1).
+pub const NO_SHA1: OptionRow = OptionRow {
+    name: "no-sha1",
+    help: "Also reports the first verified signature block whose hashes are by SHA-1 (VER 0111), if there is one; \
+        this line is a finding",
     ..FLAG
 };
 

@@ -8,6 +8,8 @@ mod book;
 #[cfg(test)]
 mod deliveries;
 #[cfg(test)]
+mod details;
+#[cfg(test)]
 mod ends;
 #[cfg(test)]
 mod examples;

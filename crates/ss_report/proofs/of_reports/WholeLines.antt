@@ -1,9 +1,11 @@
 -- The lines and the verdict that are made of a report, and of what was found to be missing beside it.
-use Rattle.std.proofs.Common.{◌≡◌, false, Option, List, ℕ, flat_map, refl, sym, ap, ◌∙◌, subst}
+use Rattle.std.proofs.Common.{◌≡◌, false, Option, List, ℕ, ◌++◌, flat_map, refl, sym, ap, ◌∙◌, subst}
 use Rattle.ss_frame.specs.Watched.{Source}
 use Rattle.ss_review.specs.declared.counted.counted_session.CountedSession.{CountedSession}
 use Rattle.ss_review.specs.declared.counted.counter.Counter.{Counter}
 use Rattle.ss_review.specs.declared.report.report.Report.{Report}
+use Rattle.ss_review.specs.declared.keep.log_blocks.LogBlock.{LogBlock}
+use Rattle.ss_review.specs.keep.LogBlocks.{log_blocks}
 use Rattle.ss_review.specs.keep.Notes.{notes}
 use Rattle.ss_review.specs.keep.Contents.{blocks, contents}
 use Rattle.ss_review.specs.sessions.Verified.{Answers}
@@ -19,7 +21,8 @@ use Rattle.ss_report.specs.declared.forms.report_form.ReportForm.{ReportForm}
 use Rattle.ss_report.specs.declared.verdict.verdict.Verdict.{Verdict}
 use Rattle.ss_report.specs.Verdict.{lines_verdict}
 use Rattle.ss_report.specs.lines.Lines.{ReportLine, itemizing}
-use Rattle.ss_report.specs.lines.Between.{lines_beside, lines_between, lines_by}
+use Rattle.ss_report.specs.lines.Between.{front_by, lines_beside, lines_between, lines_by, told_beside}
+use Rattle.ss_report.specs.lines.Front.{front_lines}
 use Rattle.ss_report.specs.declared.runs.beside.Beside.{Beside}
 use Rattle.ss_report.specs.runs.Run.{Makes}
 use Rattle.ss_report.specs.runs.Jobs.{reviewing_beside}
@@ -47,15 +50,20 @@ counted_lines reviewed law known says messages first second up_to r cs of told c
 
 pub makes_beside : (form : ReportForm) (detail : Detail) (beside : Beside) (known : Option (List (List ℕ))) (says : Answers) (options : ReadOptions) (before after : Source) (messages : List (List ℕ)) (ending : Ending)
     → ReadsLog options before after messages ending → after.failed ≡ false
-    → (r : Report) (m : Option Missing) (verdict : Verdict)
-    → ((d : Detail) (e : Ending) → lines_beside d r m e ≡ lines_by known d says beside messages e) → verdict ≡ lines_verdict (lines_beside (itemizing detail) r m ending)
-    → Makes (reviewing_beside form detail beside known says) options before after (flat_map (line_as form) (lines_beside detail r m ending)) verdict
-makes_beside form detail beside known says options before after messages ending reading no_read_failed r m verdict same judged = record {
-  messages = messages;
-  ending = ending;
-  reading = reading;
-  no_read_failed = no_read_failed;
-  unrefused = refl;
-  output_is = ap (flat_map (line_as form)) (same detail ending);
-  verdict_is = judged ∙ ap lines_verdict (same (itemizing detail) ending);
-}
+    → (bs : List LogBlock) (r : Report) (m : Option Missing) (verdict : Verdict)
+    → ((report : Report) → front_lines detail bs report ≡ front_lines detail (log_blocks (blocks (notes messages))) report)
+    → r ≡ report_by known says (contents (notes messages))
+    → ((d : Detail) (e : Ending) → lines_beside d r m e ≡ lines_by known d says beside messages e) → verdict ≡ lines_verdict (told_beside (itemizing detail) bs r m ending)
+    → Makes (reviewing_beside form detail beside known says) options before after (flat_map (line_as form) (told_beside detail bs r m ending)) verdict
+makes_beside form detail beside known says options before after messages ending reading no_read_failed bs r m verdict needed told same judged =
+    let front : front_lines detail bs r ≡ front_by known detail says messages
+    = needed r ∙ ap (front_lines detail (log_blocks (blocks (notes messages)))) told in
+    record {
+      messages = messages;
+      ending = ending;
+      reading = reading;
+      no_read_failed = no_read_failed;
+      unrefused = refl;
+      output_is = ap (flat_map (line_as form)) (λ i. front i ++ same detail ending i);
+      verdict_is = judged ∙ ap lines_verdict (λ i. front i ++ same (itemizing detail) ending i);
+    }

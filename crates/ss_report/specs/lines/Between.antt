@@ -14,7 +14,9 @@ use Rattle.ss_review.specs.declared.report.group_report.GroupReport.{GroupReport
 use Rattle.ss_review.specs.declared.report.session_report.SessionReport.{SessionReport}
 use Rattle.ss_review.specs.declared.report.report.Report.{Report}
 use Rattle.ss_review.specs.sessions.Verified.{Answers}
-use Rattle.ss_review.specs.keep.Contents.{contents}
+use Rattle.ss_review.specs.declared.keep.log_blocks.LogBlock.{LogBlock}
+use Rattle.ss_review.specs.keep.Contents.{blocks, contents}
+use Rattle.ss_review.specs.keep.LogBlocks.{log_blocks}
 use Rattle.ss_review.specs.keep.Notes.{notes}
 use Rattle.ss_review.specs.pinned.Pinned.{report_by}
 use Rattle.ss_review.specs.pinned.Stands.{shortfalls_by}
@@ -30,6 +32,7 @@ use Rattle.ss_report.specs.declared.lines.outside.Side.TheVariants as sides
 use Rattle.ss_report.specs.declared.runs.beside.Beside.{Beside}
 use Rattle.ss_report.specs.declared.runs.beside.Beside.TheVariants as beside
 use Rattle.ss_report.specs.lines.Lines.{ReportLine, EarlyLine, BeyondLine, itemized, session_lines, other_lines, lines}
+use Rattle.ss_report.specs.lines.Front.{front_lines}
 use Rattle.ss_report.specs.lines.Taken.{TakesAll}
 use Rattle.ss_report.specs.lines.Whole.{shortfall_lines, absent_lines}
 use Rattle.ss_report.specs.Verdict.{lines_verdict}
@@ -111,6 +114,10 @@ abbrev pub lines_beside : Detail → Report → Option Missing → Ending → Li
 lines_beside detail report None ending = lines detail report ending
 lines_beside detail report (Some m) ending = lines_between detail m.first m.second report m.short ending
 
+-- the same after those in front of them
+abbrev pub told_beside : Detail → List LogBlock → Report → Option Missing → Ending → List ReportLine
+told_beside detail bs report missing ending = front_lines detail bs report ++ lines_beside detail report missing ending
+
 -- those of the sessions alone
 abbrev pub missing_lines : Detail → Missing → List SessionReport → List ReportLine
 missing_lines detail m ss =
@@ -153,6 +160,11 @@ lines_by known detail says (beside.Missing up_to) messages ending =
     whole_lines_by known detail says (end_counters (given up_to)) messages ending
 lines_by known detail says (beside.Night first second) messages ending =
     between_lines_by known detail says first.now (given second) messages ending
+
+-- the lines in front of those of a log, by the payloads that are known beforehand, or without any
+abbrev pub front_by : Option (List (List ℕ)) → Detail → Answers → List (List ℕ) → List ReportLine
+front_by known detail says messages =
+    front_lines detail (log_blocks (blocks (notes messages))) (report_by known says (contents (notes messages)))
 
 -- ---- verdicts: clean where none of the lines leaves anything to look into
 

@@ -9,6 +9,7 @@ use Rattle.ss_block.specs.declared.block.Group.{Group}
 use Rattle.ss_block.specs.declared.session.Session.{Session}
 use Rattle.ss_block.specs.declared.spoil.Spoil.{Spoil}
 use Rattle.ss_review.specs.declared.keep.spoilt.SpoiltPlace.{SpoiltPlace}
+use Rattle.ss_review.specs.declared.questions.parameters.AskedParameters.{AskedParameters}
 use Rattle.ss_review.specs.declared.report.entry.Why.{Why}
 use Rattle.ss_review.specs.declared.report.entry.Entry.{Entry}
 use Rattle.ss_review.specs.declared.report.entry.Entry.TheVariants as entries
@@ -24,6 +25,7 @@ use Rattle.ss_report.specs.declared.lines.detail.Listing.{Listing}
 use Rattle.ss_report.specs.declared.lines.detail.Listing.TheVariants as listings
 use Rattle.ss_report.specs.declared.lines.order.Order.{Order}
 use Rattle.ss_report.specs.declared.lines.tally.Tally.{Tally}
+use Rattle.ss_report.specs.lines.Brief.{brief}
 use Rattle.ss_report.specs.lines.Order.{order}
 use Rattle.ss_report.specs.lines.Tally.{tally}
 use Rattle.ss_report.specs.declared.lines.line.Line.{Line}
@@ -51,12 +53,22 @@ pub data ReportLine : Type 0 where
   DamagedLine : (place offset size : ℕ) → ReportLine
   DamagedCountLine : (count octets : ℕ) → ReportLine
   TornLine : (offset : ℕ) → ReportLine
+  BlockLine : (place : ℕ) → (verified : Bool) → Session → AskedParameters → ReportLine
+  Sha1Line : (place : ℕ) → ReportLine
+  NoneListedLine : ReportLine
   EmptyLine : ReportLine
   EndLine : (count : ℕ) → ReportLine
 
 -- this listing, and no finding besides
 abbrev pub alone : Listing → Detail
-alone listing = record { listing = listing; in_order = false; not_empty = false }
+alone listing = record {
+  listing = listing;
+  in_order = false;
+  not_empty = false;
+  some_listed = false;
+  no_sha1 = false;
+  blocks = false;
+}
 
 -- each item, and no finding besides
 abbrev pub itemized : Detail
@@ -77,10 +89,12 @@ entry_line s g (entries.Listed number place) = OkLine s g number place
 entry_line s g (entries.Gap number why) = GapLine s g number why
 entry_line s g (entries.Hole first last) = HoleLine s g first last
 
--- those of the entries of a group, or one with their counts
+-- those of the entries of a group, or one with their counts, or that one after those that aren't listed, and after the
+-- listed ones beside them
 abbrev pub entry_lines : Listing → Session → Group → List Entry → List ReportLine
 entry_lines listings.Itemized s g es = map (entry_line s g) es
 entry_lines listings.Tally s g es = TallyLine s g (tally es) ∷ []
+entry_lines listings.Brief s g es = map (entry_line s g) (brief es) ++ TallyLine s g (tally es) ∷ []
 
 -- that listed messages of a group don't stand in the order of their numbers, if that is so
 abbrev pub order_lines : Session → Group → Order → List ReportLine
@@ -113,6 +127,7 @@ damage_count ds = if length ds == 0 then [] else DamagedCountLine (length ds) (o
 abbrev pub damage_lines : Listing → List Damage → List ReportLine
 damage_lines listings.Itemized ds = map damage_line ds
 damage_lines listings.Tally ds = damage_count ds
+damage_lines listings.Brief ds = map damage_line ds
 
 -- what is damaged, and the torn end
 abbrev pub ending_lines : Listing → Ending → List ReportLine
@@ -122,10 +137,15 @@ ending_lines listing ending = damage_lines listing ending.damaged ++ tail_lines 
 abbrev pub end_lines : (not_empty : Bool) → (count : ℕ) → List ReportLine
 end_lines not_empty count = if not_empty && count == 0 then EmptyLine ∷ EndLine count ∷ [] else EndLine count ∷ []
 
+-- one for each unlisted, refused and spoilt message
+abbrev pub item_lines : Report → List ReportLine
+item_lines report =
+    map UnlistedLine report.unlisted ++ map RefusedLine report.refused ++ map spoilt_place_line report.spoilt
+
 -- those of single messages
 unfoldable pub single_lines : Listing → Report → List ReportLine
-single_lines listings.Itemized report =
-    map UnlistedLine report.unlisted ++ map RefusedLine report.refused ++ map spoilt_place_line report.spoilt
+single_lines listings.Itemized report = item_lines report
+single_lines listings.Brief report = item_lines report
 single_lines listings.Tally report =
     UnlistedCountLine (length report.unlisted) ∷ RefusedCountLine (length report.refused)
     ∷ SpoiltCountLine (length report.spoilt) ∷ []
@@ -162,5 +182,8 @@ seen (line.SpoiltCount count) = SpoiltCountLine count
 seen (line.Damaged place offset size) = DamagedLine place offset size
 seen (line.DamagedCount count octets) = DamagedCountLine count octets
 seen (line.Torn offset) = TornLine offset
+seen (line.Block b verified) = BlockLine b.now.place verified b.now.session b.now.parameters
+seen (line.Sha1 place) = Sha1Line place
+seen line.NoneListed = NoneListedLine
 seen line.Empty = EmptyLine
 seen (line.End count) = EndLine count

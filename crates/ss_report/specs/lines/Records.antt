@@ -1,5 +1,7 @@
 -- A line of a report as a record: its kind, and its fields in their order.
-use Rattle.std.specs.Prelude.{ℕ, List, [], ◌++◌, codes}
+use Rattle.std.specs.Prelude.{ℕ, Bool, List, [], ◌++◌, codes, if◌then◌else◌}
+use Rattle.ss_review.specs.declared.questions.parameters.AskedParameters.{AskedParameters}
+use Rattle.ss_review.specs.declared.questions.parameters.AskedParameters.TheVariants as parameters
 use Rattle.ss_review.specs.declared.report.entry.Why.{Why}
 use Rattle.ss_review.specs.declared.report.entry.Why.TheVariants as whys
 use Rattle.ss_review.specs.declared.report.session_report.SessionState.{SessionState}
@@ -12,6 +14,8 @@ use Rattle.ss_report.specs.lines.Lines.{ReportLine, SessionLine, OkLine, GapLine
 use Rattle.ss_report.specs.lines.Lines.{EarlyLine, BeyondLine, AbsentLine, TallyLine, DisorderLine, EmptyLine}
 use Rattle.ss_report.specs.lines.Lines.{UnlistedLine, RefusedLine, SpoiltLine, UnlistedCountLine, RefusedCountLine}
 use Rattle.ss_report.specs.lines.Lines.{SpoiltCountLine, DamagedLine, DamagedCountLine, TornLine, EndLine}
+use Rattle.ss_report.specs.lines.Lines.{BlockLine, Sha1Line, NoneListedLine}
+use Rattle.ss_report.specs.texts.Asked.{parameter_fields}
 
 abbrev pub state_word : SessionState → List ℕ
 state_word states.Joined = codes "joined"
@@ -38,6 +42,14 @@ order_fields o =
     field (codes "count") (Number o.count) ++ field (codes "number") (Number o.number)
     ++ field (codes "place") (Number o.place)
 
+-- which kind of block it is
+abbrev pub block_kind : AskedParameters → List ℕ
+block_kind (parameters.Signature alg group gbc first count) = codes "signature-block"
+block_kind (parameters.Certificate alg group total index length) = codes "certificate-block"
+
+abbrev pub yes_or_no : Bool → List ℕ
+yes_or_no b = if b then codes "yes" else codes "no"
+
 abbrev pub kind_of : ReportLine → List ℕ
 kind_of (SessionLine s state) = codes "session"
 kind_of (OkLine s g number place) = codes "ok"
@@ -59,6 +71,9 @@ kind_of (SpoiltCountLine count) = codes "spoilt-count"
 kind_of (DamagedLine place offset size) = codes "damaged"
 kind_of (DamagedCountLine count octets) = codes "damaged-count"
 kind_of (TornLine offset) = codes "torn"
+kind_of (BlockLine place verified s parameters) = block_kind parameters
+kind_of (Sha1Line place) = codes "sha1"
+kind_of NoneListedLine = codes "none-listed"
 kind_of EmptyLine = codes "empty"
 kind_of (EndLine count) = codes "end"
 
@@ -93,6 +108,11 @@ fields_of (DamagedLine place offset size) = stretch_fields place offset size
 fields_of (DamagedCountLine count octets) =
     field (codes "count") (Number count) ++ field (codes "octets") (Number octets)
 fields_of (TornLine offset) = field (codes "offset") (Number offset)
+fields_of (BlockLine place verified s parameters) =
+    field (codes "place") (Number place) ++ field (codes "verified") (Word (yes_or_no verified)) ++ session_fields s
+    ++ parameter_fields parameters
+fields_of (Sha1Line place) = field (codes "place") (Number place)
+fields_of NoneListedLine = []
 fields_of EmptyLine = []
 fields_of (EndLine count) = field (codes "count") (Number count)
 

@@ -1,10 +1,11 @@
 -- Which lines of a report leave nothing to look into.
 use Rattle.std.specs.Prelude.{◌==◌, ◌&&◌, Bool, true, false}
 use Rattle.ss_review.specs.report.Verdict.{is_joined}
-use Rattle.ss_report.specs.lines.Lines.{ReportLine, SessionLine, OkLine, TallyLine, EndLine}
+use Rattle.ss_report.specs.lines.Lines.{ReportLine, SessionLine, OkLine, TallyLine, BlockLine, EndLine}
 use Rattle.ss_report.specs.lines.Lines.{UnlistedCountLine, RefusedCountLine, SpoiltCountLine}
 
--- a joined session, a listed message, the count of the messages, and counts of nothing
+-- A joined session, a listed message, a block, the count of the messages, and counts of nothing. A block that isn't
+-- verified has another line, which leaves something.
 abbrev pub is_settled : ReportLine → Bool
 is_settled (SessionLine s state) = is_joined state
 is_settled (OkLine s g number place) = true
@@ -12,5 +13,6 @@ is_settled (TallyLine s g t) = t.lost == 0 && t.disputed == 0 && t.holes == 0
 is_settled (UnlistedCountLine count) = count == 0
 is_settled (RefusedCountLine count) = count == 0
 is_settled (SpoiltCountLine count) = count == 0
+is_settled (BlockLine place verified s parameters) = true
 is_settled (EndLine count) = true
 is_settled line = false

@@ -18,7 +18,7 @@ use Rattle.ss_report.specs.forms.Forms.{line_as, report_lines}
 use Rattle.ss_block.specs.declared.session.Session.{Session}
 use Rattle.ss_report.specs.lines.Lines.{ReportLine, itemizing, lines}
 use Rattle.ss_report.specs.lines.Whole.{TellsMissing}
-use Rattle.ss_report.specs.lines.Between.{between_lines_by, lines_by, whole_lines_by}
+use Rattle.ss_report.specs.lines.Between.{between_lines_by, front_by, lines_by, whole_lines_by}
 use Rattle.ss_review.specs.declared.counted.counter.Counter.{Counter}
 use Rattle.ss_report.specs.texts.QuestionForms.{questions_as, questions_end}
 use Rattle.ss_report.specs.runs.Counters.{counter_lines}
@@ -37,7 +37,7 @@ use Rattle.ss_report.specs.declared.payloads.Payloads.{Payloads}
 use Rattle.ss_report.specs.declared.payloads.Payloads.TheVariants as payloads
 use Rattle.ss_report.specs.declared.verdict.verdict.Verdict.{Verdict}
 
--- a line a message, in a form, by whether a place is named, where facts are asked for
+-- a line a message, in a form, by whether its place is named, where facts are asked for
 abbrev pub inspecting_by : InspectionForm → Option (ℕ → Bool) → Job
 inspecting_by form names = record {
   output = inspection form names;
@@ -46,7 +46,7 @@ inspecting_by form names = record {
   refusal = nothing;
 }
 
--- the same, with facts where places are named
+-- the same, with more facts at these places, where facts are asked for
 abbrev pub inspecting : InspectionForm → (facts : Option (List ℕ)) → Job
 inspecting form facts = inspecting_by form (names_of facts)
 
@@ -59,11 +59,16 @@ reviewing says = record {
   refusal = nothing;
 }
 
--- these lines in a form, with the verdict of all of them, each item with a line of its own
-abbrev pub reporting : ReportForm → Detail → (Detail → List (List ℕ) → Ending → List ReportLine) → Job
-reporting form detail lines = record {
-  output = λ messages ending. flat_map (line_as form) (lines detail messages ending);
-  verdict = λ messages ending. lines_verdict (lines (itemizing detail) messages ending);
+-- These lines of a log in a form, after those in front of them, with the verdict of all of them, each item with a line of
+-- its own. The lines go by the payloads that are known beforehand, and so do those in front.
+abbrev pub reporting :
+    ReportForm → Detail → (known : Option (List (List ℕ))) → Answers
+    → (Detail → List (List ℕ) → Ending → List ReportLine) → Job
+reporting form detail known says lines = record {
+  output = λ messages ending.
+      flat_map (line_as form) (front_by known detail says messages ++ lines detail messages ending);
+  verdict = λ messages ending.
+      lines_verdict (front_by known detail says messages ++ lines (itemizing detail) messages ending);
   reviews = true;
   refusal = nothing;
 }
@@ -71,13 +76,14 @@ reporting form detail lines = record {
 -- the report in a form
 abbrev pub reviewing_as : ReportForm → Detail → (known : Option (List (List ℕ))) → Answers → Job
 reviewing_as form detail known says =
-    reporting form detail (λ d messages ending. lines d (report_by known says (contents (notes messages))) ending)
+    reporting form detail known says
+    (λ d messages ending. lines d (report_by known says (contents (notes messages))) ending)
 
 -- the report in a form, with what is missing of each session's signature blocks, and of all up to these counters
 abbrev pub reviewing_whole :
     ReportForm → Detail → List Counter → (known : Option (List (List ℕ))) → Answers → Job
 reviewing_whole form detail counters known says =
-    reporting form detail (λ d messages ending. whole_lines_by known d says counters messages ending)
+    reporting form detail known says (λ d messages ending. whole_lines_by known d says counters messages ending)
 
 -- the report of one night in a form: between these counters of each session, with what is missing of it up to the
 -- second ones, if they are given, and with what is announced outside of the night
@@ -85,12 +91,13 @@ abbrev pub reviewing_between :
     ReportForm → Detail → (first : List Counter) → (second : Option (List Counter))
     → (known : Option (List (List ℕ))) → Answers → Job
 reviewing_between form detail first second known says =
-    reporting form detail (λ d messages ending. between_lines_by known d says first second messages ending)
+    reporting form detail known says
+    (λ d messages ending. between_lines_by known d says first second messages ending)
 
 -- one of these, by what is to be reported beside the report
 abbrev pub reviewing_beside : ReportForm → Detail → Beside → (known : Option (List (List ℕ))) → Answers → Job
 reviewing_beside form detail beside known says =
-    reporting form detail (λ d messages ending. lines_by known d says beside messages ending)
+    reporting form detail known says (λ d messages ending. lines_by known d says beside messages ending)
 
 -- what a review asks of a signature scheme, with each payload in each question about it, or once
 abbrev pub asking : Notation → Payloads → (known : Option (List (List ℕ))) → Job

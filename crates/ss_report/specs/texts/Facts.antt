@@ -1,4 +1,4 @@
--- What an inspection adds to the line of a message, if places are named: how long the message is, its TIMESTAMP, and
+-- What an inspection adds to the line of a message, where facts are asked for: how long the message is, its TIMESTAMP, and
 -- whether `[ssign` stands in it; at the named places also the octets of the message, and those of its block or wrap.
 use Rattle.std.specs.Prelude.{ℕ, ◌+◌, Bool, true, false, not, ◌==◌, ◌||◌, if◌then◌else◌, List, [], ◌∷◌, ◌++◌, codes}
 use Rattle.std.specs.Prelude.{take, drop, length, Option, Some, None, option_map}
@@ -73,7 +73,7 @@ mark_fields t = if holds_mark t then field (codes "marked") (Number 1) else []
 
 -- ---- of a message at a named place
 
--- the most octets of a text that a line has
+-- the most octets that `text` and `original` have
 abbrev pub longest_text : ℕ
 longest_text = 16384
 

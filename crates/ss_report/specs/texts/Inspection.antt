@@ -1,6 +1,6 @@
 -- What each message of a log is, one line a message, each ended by LF: words with one SP between two, or a JSON object
 -- (RFC 8259). The findings alone leave out the plain messages. Where wraps are taken off, the line of a wrap says what
--- the octets in it are. Where places are named, each line has facts too.
+-- the octets in it are. Where facts are asked for, each line has them too.
 use Rattle.std.specs.Prelude.{ℕ, ◌+◌, Bool, true, false, ◌&&◌, if◌then◌else◌, List, [], ◌∷◌, ◌++◌, codes}
 use Rattle.std.specs.Prelude.{length, Option, Some, None}
 use Rattle.ss_message.specs.declared.fault.Part.{Part}

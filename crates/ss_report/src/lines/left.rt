@@ -3,11 +3,14 @@
 ghost use Rattle.std.specs.Prelude.{◌≡◌, ◌++◌, ◌∷◌, [], map, flat_map, filter_map};
 ghost use Rattle.ss_between.specs.Between.{entry_left, run_left, tail_left};
 ghost use Rattle.ss_report.specs.lines.Taken.{TakesAll};
-ghost use Rattle.ss_report.specs.lines.Lines.{entry_line, entry_lines, group_lines, order_lines, seen, session_lines};
+ghost use Rattle.ss_report.specs.lines.Lines.{TallyLine, entry_line, entry_lines, group_lines, order_lines, seen};
+ghost use Rattle.ss_report.specs.lines.Lines.{session_lines};
+ghost use Rattle.ss_report.specs.lines.Tally.{tally};
 ghost use Rattle.ss_report.specs.lines.Between.{gbc_from, group_from, number_from, session_from, shortfall_from};
 ghost use Rattle.ss_report.specs.lines.Between.{tail_from};
 ghost use Rattle.ss_report.specs.lines.Whole.{missing_line, shortfall_lines, tail_line};
 
+use crate::lines::brief::walk_brief_left;
 use crate::lines::detail::{Detail, Listing};
 use crate::lines::line::Line;
 use crate::lines::order::Order;
@@ -88,7 +91,8 @@ fn walk_group_left<S, V: LineVisitor<S>>(
     }
 }
 
-/// Hands on a line for each entry of a group, without the numbers of holes below this one, or their counts.
+/// Hands on a line for each entry of a group, without the numbers of holes below this one, or their counts, or both in
+/// brief.
 fn walk_listing<S, V: LineVisitor<S>>(
     visitor: &V,
     into: &mut S,
@@ -103,18 +107,35 @@ fn walk_listing<S, V: LineVisitor<S>>(
 {
     match listing {
         Listing::Itemized => walk_entries_left(visitor, into, session, group, entries, number),
-        Listing::Tally => {
-            let tally = Tally::of_left(number, entries);
-            visitor.visit(
-                into,
-                Line::Tally {
-                    session,
-                    group,
-                    tally,
-                },
-            );
+        Listing::Tally => walk_tally(visitor, into, session, group, entries, number),
+        Listing::Brief => {
+            walk_brief_left(visitor, into, session, group, entries, number);
+            walk_tally(visitor, into, session, group, entries, number);
         }
     }
+}
+
+/// Hands on the counts of the entries of a group, without the numbers of holes below this one.
+fn walk_tally<S, V: LineVisitor<S>>(
+    visitor: &V,
+    into: &mut S,
+    session: &Session,
+    group: Group,
+    entries: &[Entry],
+    number: u64,
+)
+    ensures { TakesAll (V.takes visitor.now) into.old into.new
+        (TallyLine session.now group (tally (filter_map (entry_left number) entries.now)) ∷ []) }
+{
+    let tally = Tally::of_left(number, entries);
+    visitor.visit(
+        into,
+        Line::Tally {
+            session,
+            group,
+            tally,
+        },
+    );
 }
 
 /// Hands on that the listed messages of a group don't stand in the order of their numbers, if that is so.
@@ -194,7 +215,7 @@ fn walk_entry_left<S, V: LineVisitor<S>>(
 }
 
 /// The line of an entry.
-fn line_of_entry(session: &Session, group: Group, entry: Entry) -> Line<'_>
+pub(crate) fn line_of_entry(session: &Session, group: Group, entry: Entry) -> Line<'_>
     ensures { seen result ≡ entry_line session.now group entry }
 {
     match entry {

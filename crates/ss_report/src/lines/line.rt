@@ -2,7 +2,7 @@
 use crate::lines::order::Order;
 use crate::lines::tally::Tally;
 use ss_block::{Group, Session, Spoil};
-use ss_review::{GroupTail, MissingRun, SessionState, Why};
+use ss_review::{GroupTail, LogBlock, MissingRun, SessionState, Why};
 
 /// A line of a report. Places count the messages of the log from 0; numbers are 1 to 9,999,999,999.
 #[derive(Clone, Copy)]
@@ -116,6 +116,17 @@ pub(crate) enum Line<'r> {
     Torn {
         offset: u64,
     },
+    /// A block of the log, verified or not.
+    Block {
+        block: &'r LogBlock,
+        is_verified: bool,
+    },
+    /// The place of the first verified signature block whose hashes are by SHA-1.
+    Sha1 {
+        place: u32,
+    },
+    /// No message is listed.
+    NoneListed,
     /// The log has no message.
     Empty,
     /// How many messages the log has.

@@ -1,7 +1,8 @@
 //! The walk through the lines of a report that come after those of its sessions.
 ghost use Rattle.std.specs.Prelude.{◌≡◌, ◌++◌, ◌∷◌, [], map};
 ghost use Rattle.ss_report.specs.lines.Taken.{TakesAll};
-ghost use Rattle.ss_report.specs.lines.Lines.{UnlistedLine, RefusedLine, end_lines, spoilt_place_line, single_lines};
+ghost use Rattle.ss_report.specs.lines.Lines.{UnlistedLine, RefusedLine, end_lines, item_lines, spoilt_place_line};
+ghost use Rattle.ss_report.specs.lines.Lines.{single_lines};
 ghost use Rattle.ss_report.specs.lines.Lines.{tail_lines, ending_lines, damage_lines, damage_count, damage_line, other_lines};
 
 use crate::lines::detail::{Detail, Listing};
@@ -27,19 +28,19 @@ pub(crate) fn walk_others<S, V: LineVisitor<S>>(
 }
 
 /// Hands on the lines of single messages, or their counts.
+#[tactic(auto, unfolding(crate::specs::lines::Lines::single_lines))]
 fn walk_singles<S, V: LineVisitor<S>>(visitor: &V, into: &mut S, report: &Report, listing: Listing)
     ensures { TakesAll (V.takes visitor.now) into.old into.new (single_lines listing report.now) }
 {
     match listing {
-        Listing::Itemized => walk_items(visitor, into, report),
+        Listing::Itemized | Listing::Brief => walk_items(visitor, into, report),
         Listing::Tally => walk_counts(visitor, into, report),
     }
 }
 
 /// Hands on a line for each unlisted, refused and spoilt message.
-#[tactic(auto, unfolding(crate::specs::lines::Lines::single_lines))]
 fn walk_items<S, V: LineVisitor<S>>(visitor: &V, into: &mut S, report: &Report)
-    ensures { TakesAll (V.takes visitor.now) into.old into.new (single_lines Listing.Itemized report.now) }
+    ensures { TakesAll (V.takes visitor.now) into.old into.new (item_lines report.now) }
 {
     walk_unlisted(visitor, into, report.unlisted.as_slice());
     walk_refused(visitor, into, report.refused.as_slice());
@@ -131,7 +132,7 @@ fn walk_damage<S, V: LineVisitor<S>>(
     ensures { TakesAll (V.takes visitor.now) into.old into.new (damage_lines listing damaged.now) }
 {
     match listing {
-        Listing::Itemized => walk_damaged(visitor, into, damaged),
+        Listing::Itemized | Listing::Brief => walk_damaged(visitor, into, damaged),
         Listing::Tally => walk_damaged_count(visitor, into, damaged),
     }
 }

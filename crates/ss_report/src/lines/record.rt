@@ -4,10 +4,11 @@ ghost use Rattle.ss_frame.specs.Watched.{sink_of};
 ghost use Rattle.ss_report.specs.log.Writing.{Writes};
 ghost use Rattle.ss_report.specs.lines.Lines.{seen};
 ghost use Rattle.ss_report.specs.lines.Records.{state_word, why_word, tally_fields, order_fields};
-ghost use Rattle.ss_report.specs.lines.Records.{kind_of, fields_of, record_of};
+ghost use Rattle.ss_report.specs.lines.Records.{block_kind, kind_of, fields_of, record_of, yes_or_no};
 ghost use Rattle.ss_report.specs.records.Record.{field, Number, Word};
 ghost use Rattle.ss_report.specs.records.Fields.{session_fields, group_fields};
 ghost use Rattle.ss_report.specs.records.Written.{fields_in, written};
+ghost use Rattle.ss_report.specs.texts.Asked.{parameter_fields};
 
 use crate::lines::line::Line;
 use crate::lines::order::Order;
@@ -16,9 +17,10 @@ use crate::notation::Notation;
 use crate::records::fields::{put_group, put_session, put_spoilt, put_stretch};
 use crate::records::record::{begin, end, put};
 use crate::records::value::Value;
+use crate::texts::question_fields::put_parameters;
 use ss_block::{Group, Session};
 use ss_frame::Watched;
-use ss_review::{MissingRun, SessionState, Why};
+use ss_review::{AskedParameters, LogBlock, MissingRun, SessionState, Why};
 use std::io::Write;
 
 /// Writes a line in a notation. Nothing is allocated.
@@ -55,8 +57,21 @@ fn kind_of(line: Line<'_>) -> &'static [u8]
         Line::Damaged { .. } => b"damaged",
         Line::DamagedCount { .. } => b"damaged-count",
         Line::Torn { .. } => b"torn",
+        Line::Block { block, .. } => block_kind(block.parameters),
+        Line::Sha1 { .. } => b"sha1",
+        Line::NoneListed => b"none-listed",
         Line::Empty => b"empty",
         Line::End { .. } => b"end",
+    }
+}
+
+/// Which kind of block it is.
+fn block_kind(parameters: AskedParameters) -> &'static [u8]
+    ensures { result.now ≡ block_kind parameters }
+{
+    match parameters {
+        AskedParameters::Signature { .. } => b"signature-block",
+        AskedParameters::Certificate { .. } => b"certificate-block",
     }
 }
 
@@ -112,7 +127,7 @@ fn put_fields<W: Write>(writer: &mut Watched<W>, notation: Notation, line: Line<
             group,
             order,
         } => put_disorder(writer, notation, session, group, order),
-        Line::Unlisted { place } | Line::Refused { place } => {
+        Line::Unlisted { place } | Line::Refused { place } | Line::Sha1 { place } => {
             put(writer, notation, b"place", Value::Number(u64::from(place)))
         }
         Line::Spoilt { place, cause } => put_spoilt(writer, notation, u64::from(place), cause),
@@ -126,6 +141,8 @@ fn put_fields<W: Write>(writer: &mut Watched<W>, notation: Notation, line: Line<
         } => put_stretch(writer, notation, u64::from(place), offset, length),
         Line::DamagedCount { count, octets } => put_stretches(writer, notation, count, octets),
         Line::Torn { offset } => put(writer, notation, b"offset", Value::Number(offset)),
+        Line::Block { block, is_verified } => put_block(writer, notation, block, is_verified),
+        Line::NoneListed => {}
         Line::Empty => {}
         Line::End { count } => put(writer, notation, b"count", Value::Number(u64::from(count))),
     }
@@ -324,6 +341,48 @@ fn put_order<W: Write>(writer: &mut Watched<W>, notation: Notation, order: Order
         b"place",
         Value::Number(u64::from(order.place)),
     );
+}
+
+/// Writes the place of a block, whether it is verified, its session, and what it says about itself.
+#[tactic(auto, using(crate::proofs::of_writing::Records::four_fields))]
+fn put_block<W: Write>(
+    writer: &mut Watched<W>,
+    notation: Notation,
+    block: &LogBlock,
+    is_verified: bool,
+)
+    ensures { Writes (sink_of W.contents writer.old) (sink_of W.contents writer.new) (fields_in notation
+        (field (codes "place") (Number block.now.place) ++ field (codes "verified") (Word (yes_or_no is_verified))
+        ++ session_fields block.now.session ++ parameter_fields block.now.parameters)) }
+{
+    put_place(writer, notation, block.place);
+    put_verified(writer, notation, is_verified);
+    put_session(writer, notation, &block.session);
+    put_parameters(writer, notation, block.parameters);
+}
+
+/// Writes a place.
+fn put_place<W: Write>(writer: &mut Watched<W>, notation: Notation, place: u32)
+    ensures { Writes (sink_of W.contents writer.old) (sink_of W.contents writer.new)
+        (fields_in notation (field (codes "place") (Number place))) }
+{
+    put(writer, notation, b"place", Value::Number(u64::from(place)));
+}
+
+/// Writes whether a block is verified.
+fn put_verified<W: Write>(writer: &mut Watched<W>, notation: Notation, is_verified: bool)
+    ensures { Writes (sink_of W.contents writer.old) (sink_of W.contents writer.new)
+        (fields_in notation (field (codes "verified") (Word (yes_or_no is_verified)))) }
+{
+    let word = yes_or_no(is_verified);
+    put(writer, notation, b"verified", Value::Word(word));
+}
+
+/// The word of an answer.
+fn yes_or_no(is_so: bool) -> &'static [u8]
+    ensures { result.now ≡ yes_or_no is_so }
+{
+    if is_so { b"yes" } else { b"no" }
 }
 
 /// Writes how many stretches are damaged, and how many octets they have.

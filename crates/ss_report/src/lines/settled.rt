@@ -26,7 +26,7 @@ fn is_settled(line: Line<'_>) -> bool
 {
     match line {
         Line::Session { state, .. } => is_joined(state),
-        Line::Ok { .. } | Line::End { .. } => true,
+        Line::Ok { .. } | Line::Block { .. } | Line::End { .. } => true,
         Line::Tally { tally, .. } => is_whole(tally),
         Line::UnlistedCount { count }
         | Line::RefusedCount { count }

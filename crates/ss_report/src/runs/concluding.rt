@@ -1,11 +1,15 @@
 //! What a reviewer that was fed a log concludes, with what is to be reported beside the report.
 ghost use Rattle.std.specs.Prelude.{◌≡◌, ◌≢◌, ℕ, List, true, false, IfOk, IfErr};
+ghost use Rattle.std.specs.List.Sorted.{IsStrictlySortedBy};
+ghost use Rattle.std.specs.Ordering.{nat_cmp};
 ghost use Rattle.ss_frame.specs.Watched.{Source};
 ghost use Rattle.ss_review.specs.declared.questions.question.Question.{Question};
 ghost use Rattle.ss_review.specs.sessions.Verified.{answers};
 ghost use Rattle.ss_review.specs.counted.Kept.{AreReviewed, log_shortfalls};
+ghost use Rattle.ss_review.specs.keep.Contents.{contents};
 ghost use Rattle.ss_review.specs.keep.Keeping.{Keeps};
 ghost use Rattle.ss_review.specs.keep.Notes.{notes};
+ghost use Rattle.ss_review.specs.pinned.Pinned.{report_by};
 ghost use Rattle.ss_report.specs.log.Log.{StopsRun};
 ghost use Rattle.ss_report.specs.runs.Run.{given};
 ghost use Rattle.ss_report.specs.lines.Between.{end_counters, lines_beside, lines_between, lines_by};
@@ -20,7 +24,8 @@ use crate::runs::beside::Beside;
 use ss_between::Bounds;
 use ss_octets::{Bytes, NoMemory};
 use ss_review::laws::kept::logs_are_reviewed;
-use ss_review::laws::pinned::pinned_reports_are_of_logs;
+use ss_review::laws::pinned::{pinned_reports_are_in_order, pinned_reports_are_of_logs};
+use ss_review::laws::reports::reports_are_in_order;
 use ss_review::{CountedReport, Counter, Judge, Report, Reviewer, log_shortfalls};
 use std::alloc::Global;
 
@@ -46,11 +51,20 @@ pub(crate) fn conclude<'c, J: Judge + Drop>(
         → IfOk result (λ concluded. (detail : Detail) (ending : Ending)
         → lines_beside detail concluded.report concluded.missing ending
         ≡ lines_by (given known.entry) detail (answers J.trusted J.valid judge) beside.entry messages ending) }
+    ensures told { (messages : List (List ℕ))
+        → Keeps reviewer (notes messages)
+        → IfOk result (λ concluded. concluded.report
+        ≡ report_by (given known.entry) (answers J.trusted J.valid judge) (contents (notes messages))) }
+    ensures rising { (messages : List (List ℕ))
+        → Keeps reviewer (notes messages)
+        → IfOk result (λ concluded. IsStrictlySortedBy nat_cmp concluded.report.refused) }
     ensures stops { (options : ReadOptions) (before after : Source)
         → after.failed ≡ false → IfErr result (StopsRun true options before after) }
     ensures code { beside.entry ≡ Nothing → IfErr result (λ fault. fault ≢ RunFault.Memory) }
 {
     pinned_reports_are_of_logs();
+    reports_are_in_order();
+    pinned_reports_are_in_order();
     logs_are_reviewed();
     match beside {
         Beside::Nothing => {
@@ -81,11 +95,12 @@ fn beside_counted<'c>(
     first: Option<&'c [Counter]>,
     second: Option<&'c [Counter]>,
 ) -> Result<Concluded<'c>, NoMemory>
-    ensures { AreReviewed counted.report.sessions counted.counted
+    ensures made { AreReviewed counted.report.sessions counted.counted
         → IfOk result (λ concluded. (detail : Detail) (ending : Ending)
         → lines_beside detail concluded.report concluded.missing ending
         ≡ lines_between detail (given first.entry) (given second.entry) counted.report
         (log_shortfalls up_to.now counted.report.sessions counted.counted) ending) }
+    ensures told { IfOk result (λ concluded. concluded.report ≡ counted.report) }
 {
     let CountedReport { report, counted } = counted;
     let sessions = report.sessions.as_slice();

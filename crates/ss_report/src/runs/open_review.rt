@@ -1,7 +1,14 @@
 //! A review whose log is read once: what it asks is written, and the report once the answers are there.
-ghost use Rattle.std.specs.Prelude.{◌≡◌, ◌≢◌, ◌++◌, ℕ, List, true, false, flat_map, IfOk, IfErr, MatchResult};
+ghost use Rattle.std.specs.Prelude.{◌≡◌, ◌≢◌, ◌++◌, ◌||◌, ℕ, List, true, false, flat_map, IfOk, IfErr, MatchResult};
+ghost use Rattle.std.specs.List.Sorted.{IsStrictlySortedBy};
+ghost use Rattle.std.specs.Ordering.{nat_cmp};
 ghost use Rattle.ss_frame.specs.Watched.{Source, has_failed, source_of, sink_of};
 ghost use Rattle.ss_review.specs.declared.questions.question.Question.{Question};
+ghost use Rattle.ss_review.specs.declared.report.report.Report.{Report};
+ghost use Rattle.ss_review.specs.keep.Contents.{blocks};
+ghost use Rattle.ss_review.specs.keep.Keeping.{Keeps};
+ghost use Rattle.ss_review.specs.keep.LogBlocks.{log_blocks};
+ghost use Rattle.ss_review.specs.keep.Notes.{notes};
 ghost use Rattle.ss_review.specs.sessions.Verified.{answers};
 ghost use Rattle.ss_report.specs.log.Fed.{FeedsLog};
 ghost use Rattle.ss_report.specs.log.Log.{StopsRun};
@@ -9,7 +16,8 @@ ghost use Rattle.ss_report.specs.log.Writing.{Writes};
 ghost use Rattle.ss_report.specs.runs.Opened.{HasRead};
 ghost use Rattle.ss_report.specs.runs.Run.{FailsToWrite, Job, Makes, Runs, Stops, given};
 ghost use Rattle.ss_report.specs.forms.Forms.{line_as};
-ghost use Rattle.ss_report.specs.lines.Between.{lines_beside};
+ghost use Rattle.ss_report.specs.lines.Between.{told_beside};
+ghost use Rattle.ss_report.specs.lines.Front.{front_lines};
 ghost use Rattle.ss_report.specs.texts.Payloads.{AreMarks};
 ghost use Rattle.ss_report.specs.texts.QuestionForms.{asking_lines_as, questions_end};
 ghost use Rattle.ss_report.specs.declared.notation.Notation.{Notation};
@@ -36,14 +44,14 @@ use crate::runs::beside::Beside;
 use crate::runs::concluding::{Concluded, conclude};
 use crate::runs::outcome::end_run;
 use crate::runs::questions::{Asked, marks_for, write_asked};
-use crate::verdict::verdict::{Verdict, beside_verdict, end_verdict};
+use crate::verdict::verdict::{Verdict, end_verdict, told_verdict};
 use ss_frame::Watched;
 use ss_octets::Bytes;
 use ss_review::laws::counted::counted_or_missing;
 use ss_review::laws::kept::{every_block_is_told, every_number_is_told};
 use ss_review::laws::pinned::pinned_reports_are_of_logs;
 use ss_review::laws::reports::reports_list_what_is_announced;
-use ss_review::{Judge, Report};
+use ss_review::{Judge, LogBlocks, Report, Reviewer};
 use std::alloc::Global;
 use std::io::{Read, Write};
 
@@ -183,9 +191,11 @@ fn write_questions_end<W: Write>(writer: &mut Watched<W>, notation: Notation)
     end(writer, notation);
 }
 
-/// The report of a log, what is to be reported beside it, what the log holds beside its messages, and the verdict.
+/// The report of a log, the blocks of the log, where lines need them, what is to be reported beside the report, what the
+/// log holds beside its messages, and the verdict.
 #[derive(Drop)]
 struct Reviewed<'c> {
+    blocks: LogBlocks,
     report: Report,
     missing: Option<Missing<'c>>,
     ending: Ending,
@@ -201,8 +211,10 @@ fn write_reviewed<W: Write>(
     detail: Detail,
 ) -> Result<Verdict, RunFault>
     ensures { (job : Job) (options : ReadOptions) (before after : Source)
+        → IsStrictlySortedBy nat_cmp reviewed.entry.report.refused
         → Makes job options before after
-        (flat_map (line_as form) (lines_beside detail reviewed.entry.report reviewed.entry.missing reviewed.entry.ending))
+        (flat_map (line_as form)
+        (told_beside detail reviewed.entry.blocks reviewed.entry.report reviewed.entry.missing reviewed.entry.ending))
         reviewed.entry.verdict
         → MatchResult result
         (λ told. Runs job options before after (sink_of W.contents writer.old) (sink_of W.contents writer.new) told)
@@ -211,12 +223,21 @@ fn write_reviewed<W: Write>(
 {
     let verdict = reviewed.verdict;
     let Reviewed {
+        blocks,
         report,
         missing,
         ending,
         ..
     } = &reviewed;
-    write_report_as(writer, report, missing, ending, form, detail);
+    write_report_as(
+        writer,
+        blocks.as_slice(),
+        report,
+        missing,
+        ending,
+        form,
+        detail,
+    );
     drop(reviewed);
     end_run(writer, verdict)
 }
@@ -239,17 +260,47 @@ fn review_fed<'c, J: Judge + Drop>(
         (form : ReportForm)
         → Makes (reviewing_beside form detail beside.entry (given known.entry) (answers J.trusted J.valid judge)) options
         before after
-        (flat_map (line_as form) (lines_beside detail reviewed.report reviewed.missing reviewed.ending)) reviewed.verdict)
+        (flat_map (line_as form)
+        (told_beside detail reviewed.blocks reviewed.report reviewed.missing reviewed.ending)) reviewed.verdict)
         (StopsRun true options before after) }
+    ensures rising { (options : ReadOptions) (before after : Source)
+        → FeedsLog options before after fed.reviewer fed.ending
+        → IfOk result (λ reviewed. IsStrictlySortedBy nat_cmp reviewed.report.refused) }
     ensures code { beside.entry ≡ Nothing → IfErr result (λ fault. fault ≢ RunFault.Memory) }
 {
+    let blocks = blocks_for(alloc, &fed.reviewer, detail)?;
     let Fed { reviewer, ending } = fed;
     let Concluded { report, missing } = conclude(alloc, reviewer, judge, known, beside)?;
-    let verdict = beside_verdict(&report, &missing, &ending, detail);
+    let verdict = told_verdict(blocks.as_slice(), &report, &missing, &ending, detail);
     Ok(Reviewed {
+        blocks,
         report,
         missing,
         ending,
         verdict,
     })
+}
+
+/// The blocks of a log that a reviewer was fed, if lines in front of its report need them, and else none.
+fn blocks_for(alloc: Global, reviewer: &Reviewer, detail: Detail) -> Result<LogBlocks, RunFault>
+    ensures same { (messages : List (List ℕ))
+        → Keeps reviewer.now (notes messages)
+        → IfOk result (λ bs. (report : Report)
+        → front_lines detail bs report ≡ front_lines detail (log_blocks (blocks (notes messages))) report) }
+    ensures stops { (options : ReadOptions) (before after : Source)
+        → after.failed ≡ false → IfErr result (StopsRun true options before after) }
+    ensures code { IfErr result (λ fault. fault ≢ RunFault.Memory) }
+{
+    if needs_blocks(detail) {
+        Ok(reviewer.log_blocks()?)
+    } else {
+        Ok(LogBlocks::from_vec(Vec::new(alloc)))
+    }
+}
+
+/// Whether lines in front of a report need the blocks of its log.
+fn needs_blocks(detail: Detail) -> bool
+    ensures { result ≡ (detail.blocks || detail.no_sha1) }
+{
+    detail.blocks || detail.no_sha1
 }

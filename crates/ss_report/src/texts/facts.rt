@@ -1,4 +1,4 @@
-//! The fields that an inspection adds to a line where places are named: facts about the octets of the message.
+//! The fields that an inspection adds to a line where facts are asked for: what the octets of the message are.
 ghost use Rattle.std.specs.Prelude.{◌≡◌, ◌≤◌, length, take, codes, OnOk};
 ghost use Rattle.std.specs.List.{prefix_len};
 ghost use Rattle.ss_block.specs.Reading.{reading};
@@ -25,7 +25,7 @@ use ss_wrap::original;
 use std::alloc::Global;
 use std::io::Write;
 
-/// The most octets of a text that a line has.
+/// The most octets that `text` and `original` have.
 const LONGEST_TEXT: usize = 16_384;
 
 /// Writes the facts about a message that was read so: `octets`, `timestamp` and `marked`, and its texts if its place is

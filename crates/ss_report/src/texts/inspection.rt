@@ -32,7 +32,7 @@ use std::alloc::Global;
 use std::io::Write;
 
 /// The text with the line of the message at this place after it. Places count the messages of the log from 0. The line
-/// has facts where places are named.
+/// has facts where these are asked for.
 pub(crate) fn put_message(
     alloc: Global,
     text: Vec<u8>,
@@ -51,7 +51,7 @@ pub(crate) fn put_message(
     Ok(writer.into_inner())
 }
 
-/// Writes the line of a message at this place, with facts where places are named, unless the form leaves it out.
+/// Writes the line of a message at this place, with facts where these are asked for, unless the form leaves it out.
 fn write_line_by<W: Write>(
     alloc: Global,
     writer: &mut Watched<W>,

@@ -66,7 +66,7 @@ fn put_block<W: Write>(
 }
 
 /// Writes the parameters of a block of either kind.
-fn put_parameters<W: Write>(
+pub(crate) fn put_parameters<W: Write>(
     writer: &mut Watched<W>,
     notation: Notation,
     parameters: AskedParameters,

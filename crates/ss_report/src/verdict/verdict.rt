@@ -1,24 +1,27 @@
 //! Whether a run over a log found anything.
 ghost use Rattle.std.specs.Prelude.{◌≡◌};
+ghost use Rattle.std.specs.List.Sorted.{IsStrictlySortedBy};
+ghost use Rattle.std.specs.Ordering.{nat_cmp};
 ghost use Rattle.ss_report.specs.Verdict.{end_verdict, is_clean_tail, lines_verdict, report_verdict, verdict_of};
-ghost use Rattle.ss_report.specs.lines.Between.{lines_beside};
+ghost use Rattle.ss_report.specs.lines.Between.{told_beside};
 ghost use Rattle.ss_report.specs.lines.Lines.{itemizing};
 
 use crate::lines::detail::{Detail, Listing};
 use crate::lines::missing::Missing;
 use crate::lines::settled::Settling;
-use crate::lines::walk::walk_lines;
+use crate::lines::walk::{walk_lines, walk_told};
 use crate::log::ending::Ending;
 use ss_frame::Tail;
-use ss_review::Report;
+use ss_review::{LogBlock, Report};
 
 /// Whether a log leaves anything to look into.
 #[derive(Clone, Copy, Debug, PartialEq, Eq)]
 pub enum Verdict {
     /// Of a review: each announced message is listed, each stored message is listed or a verified block, each session
-    /// is joined, nothing is damaged, and the log has a clean end. Of a review that reports what is missing: nothing is missing either. Of
-    /// a review of one night: nothing is missing of it, and nothing is announced outside of it. Of an inspection, of
-    /// questions and of counters: nothing is damaged, and the log has a clean end.
+    /// is joined, nothing is damaged, and the log has a clean end. Of a review that reports what is missing: nothing is
+    /// missing either. Of a review of one night: nothing is missing of it, and nothing is announced outside of it. Of a
+    /// review with findings besides: none of these was found. Of an inspection, of questions and of counters: nothing is
+    /// damaged, and the log has a clean end.
     Clean,
     /// One of these conditions doesn't hold.
     Findings,
@@ -44,23 +47,35 @@ fn is_clean_tail(tail: Tail) -> bool
 pub(crate) fn report_verdict(report: &Report, ending: &Ending) -> Verdict
     ensures { result ≡ report_verdict report.now ending.now }
 {
+    let mut settled = true;
     let each = Detail::of(Listing::Itemized);
-    beside_verdict(report, &None, ending, each)
+    walk_lines(&Settling, &mut settled, report, &None, ending, each);
+    verdict_of(settled)
 }
 
-/// Whether no line of a report on a log with this ending leaves anything to look into, of those with each item and these
-/// findings, and none of what is missing beside it, if that is reported too.
-pub(crate) fn beside_verdict(
+/// Whether no line of a report on a log with these blocks and this ending leaves anything to look into, of those with
+/// each item and these findings, and none of what is missing beside it, if that is reported too.
+pub(crate) fn told_verdict(
+    blocks: &[LogBlock],
     report: &Report,
     missing: &Option<Missing<'_>>,
     ending: &Ending,
     detail: Detail,
 ) -> Verdict
-    ensures { result ≡ lines_verdict (lines_beside (itemizing detail) report.now missing.now ending.now) }
+    ensures { IsStrictlySortedBy nat_cmp report.now.refused
+        → result ≡ lines_verdict (told_beside (itemizing detail) blocks.now report.now missing.now ending.now) }
 {
     let mut settled = true;
     let each = detail.itemized();
-    walk_lines(&Settling, &mut settled, report, missing, ending, each);
+    walk_told(
+        &Settling,
+        &mut settled,
+        blocks,
+        report,
+        missing,
+        ending,
+        each,
+    );
     verdict_of(settled)
 }
 

@@ -2,11 +2,12 @@
 use super::Explanation;
 
 /// Words of a verdict, and lines of a report.
-pub static LINES: [Explanation; 26] = [
+pub static LINES: [Explanation; 30] = [
     Explanation {
         code: "verified",
         text: "Of a block: its session is joined, and its own signature is valid under the session's payload. Only \
-            verified blocks announce messages. A report has no line for such a block. The other blocks are unverified.",
+            verified blocks announce messages. Only --blocks and --no-sha1 write a line about such a block. The other \
+            blocks are unverified.",
     },
     Explanation {
         code: "unverified",
@@ -64,7 +65,7 @@ pub static LINES: [Explanation; 26] = [
         text: "Only ssign review --from writes this line. It ends with the first and the last of some numbers. \
             Verified blocks announce them, and they lie below the first counter of their group: that of the file of \
             --from. So blocks of an earlier night stand in this log, or the counters are those of a later night, or \
-            numbers were given twice. Each of these numbers has its ok or gap line too.",
+            numbers were given twice. Each of these numbers is also listed or a gap.",
     },
     Explanation {
         code: "beyond",
@@ -72,7 +73,7 @@ pub static LINES: [Explanation; 26] = [
             last of some numbers. Verified blocks announce them, and they lie at the second counter of their group or \
             above it: that of the file of --counters. Or the group has no counter there. So blocks of a later night \
             stand in this log, or the counters are older, or somebody else signs with this key. Each of these numbers \
-            has its ok or gap line too.",
+            is also listed or a gap.",
     },
     Explanation {
         code: "blocks",
@@ -94,11 +95,11 @@ pub static LINES: [Explanation; 26] = [
     },
     Explanation {
         code: "tally",
-        text: "Only ssign review --tally writes this line, one for each group, in place of its ok, gap and hole lines. \
-            After the group, SG and SPRI, stand six numbers. The first counts the ok lines. The next two count the \
-            gap lines: those that are lost, and those that are disputed. The fourth is how many numbers lie in holes. \
-            The last two are the first and the last announced number. If the second, the third or the fourth isn't 0, \
-            run ssign review --findings.",
+        text: "Only ssign review writes this line, one for each group: with --tally in place of its ok, gap and hole \
+            lines, and with --brief after them. After the group, SG and SPRI, stand six numbers. The first counts the \
+            listed numbers. The next two count the gaps: those that are lost, and those that are disputed. The fourth \
+            is how many numbers lie in holes. The last two are the first and the last announced number. If with \
+            --tally the second, the third or the fourth isn't 0, run ssign review --findings.",
     },
     Explanation {
         code: "disorder",
@@ -114,7 +115,7 @@ pub static LINES: [Explanation; 26] = [
             after the end of this log: no other line shows this. Its block is missing or unverified: a hole, a refused \
             line or a session that isn't joined may show this. Only a blocks line, of --whole, may show that the last \
             block of a group is missing. Somebody changed it or put it in: a gap and this line together usually mean \
-            that a message was changed. It is a copy too many: an ok line lists an equal message at an earlier place.",
+            that a message was changed. It is a copy too many: an equal message at an earlier place is listed.",
     },
     Explanation {
         code: "refused",
@@ -164,6 +165,33 @@ pub static LINES: [Explanation; 26] = [
         text: "The log breaks off in the frame or line that begins at this octet. What stands before it was read. The \
             log was cut off, or is still being written. Get the rest, and run again. If messages stand after it, a \
             length is wrong: with --salvage reading goes on after that.",
+    },
+    Explanation {
+        code: "signature-block",
+        text: "Only ssign review --blocks writes this line, in front of the report, for each signature block of the \
+            log. After its place stands whether it is verified, yes or no. Then come what the block says about \
+            itself: its session, VER, SG, SPRI and GBC, the number of its first message, and how many hashes it has. \
+            What an unverified block says counts for nothing.",
+    },
+    Explanation {
+        code: "certificate-block",
+        text: "Only ssign review --blocks writes this line, in front of the report, for each certificate block of the \
+            log. After its place stands whether it is verified, yes or no. Then come what the block says about \
+            itself: its session, VER, SG and SPRI, how long the payload is, where in it the fragment begins, and how \
+            long that is. What an unverified block says counts for nothing.",
+    },
+    Explanation {
+        code: "sha1",
+        text: "Only ssign review --no-sha1 writes this line, in front of the report. The verified signature block at \
+            this place has hashes by SHA-1, and it is the first such block. Two texts with one SHA-1 can be made, so \
+            its session proves less. Other sessions may have such blocks too: --blocks shows the VER of each. Have the \
+            sender sign with VER 0121, which is SHA-256.",
+    },
+    Explanation {
+        code: "none-listed",
+        text: "Only ssign review --some-listed writes this line, in front of the report. No message of the log is \
+            listed, so nothing is shown to be authentic. See whether the answers are those of this log, and look at \
+            the state of each session. With --from, a night in which nothing was sent looks the same.",
     },
     Explanation {
         code: "empty",

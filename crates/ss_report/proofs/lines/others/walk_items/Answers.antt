@@ -1,10 +1,9 @@
 use Rattle.std.proofs.Common.{map, ◌++◌}
-use Rattle.ss_report.specs.lines.Lines.{UnlistedLine, RefusedLine, spoilt_place_line, single_lines}
+use Rattle.ss_report.specs.lines.Lines.{UnlistedLine, RefusedLine, spoilt_place_line}
 use Rattle.ss_report.proofs.of_writing.LinesTaken.{lines_then}
 use Rattle.ss_report.proofs.lines.others.walk_items.Goals as goal
 
 pub returns : goal.returns
-unfolding single_lines
 returns g c =
     let takes = g.V.LineVisitor.takes c.args.visitor.now in
     let report = c.args.report.now in

@@ -8,9 +8,20 @@ pub returns-clause-made : goal.returns-clause-made
 returns-clause-made g c = λ options before after fed.
     let says = answers g.J.Judge.trusted g.J.Judge.valid c.args.judge in
     let found = c.in_ok-report.field-0 in
-    λ form. makes_beside form c.args.detail c.args.beside (given c.args.known) says _ _ _ fed.messages c.args.fed.ending fed.reading fed.no_read_failed found.report found.missing _ (c.in_ok-report.ensures.made fed.messages fed.keeps) c.beside_verdict-verdict.ensures
+    let bs = c.in_ok-blocks.blocks in
+    let up = c.in_ok-report.ensures.rising fed.messages fed.keeps in
+    let judged = (rw c.as_slice.ensures at c.told_verdict-verdict.ensures) up in
+    λ form. makes_beside form c.args.detail c.args.beside (given c.args.known) says _ _ _ fed.messages c.args.fed.ending fed.reading fed.no_read_failed bs found.report found.missing _ (c.in_ok-blocks.ensures.same fed.messages fed.keeps) (c.in_ok-report.ensures.told fed.messages fed.keeps) (c.in_ok-report.ensures.made fed.messages fed.keeps) judged
+
+pub returns-clause-rising : goal.returns-clause-rising
+returns-clause-rising g c = λ options before after fed. c.in_ok-report.ensures.rising fed.messages fed.keeps
+
+pub returns-in_err-blocks-clause-made : goal.returns-in_err-blocks-clause-made
+returns-in_err-blocks-clause-made g c = λ options before after fed.
+    let p = err_from_is_err_and c.from_residual.result c.from_residual.ensures.1 in
+    rw (p.1, p.2) (c.in_err-blocks.ensures.stops options before after fed.no_read_failed)
 
 pub returns-in_err-report-clause-made : goal.returns-in_err-report-clause-made
 returns-in_err-report-clause-made g c = λ options before after fed.
-    let p = err_from_is_err_and c.from_residual.result c.from_residual.ensures.1 in
+    let p = err_from_is_err_and c.from_residual-in_err-report.result c.from_residual-in_err-report.ensures.1 in
     rw (p.1, p.2) (c.in_err-report.ensures.stops options before after fed.no_read_failed)

@@ -1,4 +1,3 @@
-use Rattle.ss_report.proofs.of_reading.Answered.{stops_of}
 use Rattle.ss_report.proofs.runs.review_as.run_review_as.Goals as goal
 
 pub returns-clause-reviewed : goal.returns-clause-reviewed

@@ -1,7 +1,7 @@
 use Rattle.std.proofs.Common.{ap, sym, subst}
 use Rattle.ss_frame.specs.Watched.{sink_of}
 use Rattle.ss_report.specs.forms.Forms.{notation_of}
-use Rattle.ssign.specs.GivenFiles.{Adds, HoldsNothing, files_of}
+use Rattle.ssign.specs.GivenFiles.{HoldsNothing, files_of}
 use Rattle.ssign.specs.AskOrder.{asking_job}
 use Rattle.ssign.proofs.AskedQuestions.{asks_failed, asks_whole, unmade}
 use Rattle.ssign.proofs.orders.asking.ask_in.Goals as goal

@@ -1,4 +1,4 @@
-use Rattle.std.proofs.Common.{Ok, Err, inl, inr}
+use Rattle.std.proofs.Common.{inr}
 use Rattle.ss_frame.specs.Watched.{source_of, sink_of}
 use Rattle.ssign.specs.GivenFiles.{files_of}
 use Rattle.ssign.proofs.AskedFiles.{unasked_asking}

@@ -1,4 +1,3 @@
-use Rattle.std.proofs.Common.{Some, Err}
 use Rattle.ss_frame.specs.Watched.{source_of, sink_of}
 use Rattle.ssign.specs.GivenFiles.{files_of}
 use Rattle.ssign.proofs.AskedFiles.{asking, at_once, unanswered}
