@@ -21,13 +21,13 @@ import time
 from concurrent.futures import ThreadPoolExecutor
 from typing import BinaryIO, Callable, Dict, List, NamedTuple, Optional, Sequence
 
-import skips
 
 # a run that takes more seconds hangs
 PATIENCE = 100
 KEY = ["--key", "keys/public-key.pem"]
 WRONG = "ssign-keys: the report of ssign review is wrong, so there is no verdict: "
 UNREAD, EARLY, ENDLESS = "ssign didn't read %s to the end", "ssign asks or waits for answers too early", "its questions have no end"
+CHANGED = "the log mapped was changed while it was read: run again, or hand over a copy"
 PAYLOAD, END = b'{"line":"payload","payload_index":0,"payload":"S0VZ"}\n', b'{"line":"end"}\n'
 NO_QUESTION = "ssign-keys: line %d is no object `payload`, `trust?` or `yes?` of ssign review --ask --json"
 passed = failed = 0
@@ -262,7 +262,7 @@ def stand_in(program: str, words: Sequence[str]) -> int:
     if not words[0].startswith("--"):
         # how it is called, and what it is handed
         octets = sys.stdin.buffer.read(1000)
-        if "CHANGE" in os.environ:
+        if "CHANGE" in os.environ and not os.path.exists("changed-once"):
             open("changing", "w", encoding="ascii").close()
             while os.path.exists("changing"):
                 time.sleep(0.01)
@@ -354,14 +354,14 @@ def check_broken(bench: Bench) -> None:
 
 
 def check_counts(bench: Bench) -> None:
-    """How often ssign is run, and that it is handed the log once."""
+    """How often ssign is run, and that each run is handed the log: one run, and another one where texts or times are shown."""
     with open("log", "rb") as file:
         log = file.read()
     with gzip.open("log.gz", "wb") as packed:
         packed.write(log)
-    whole = ["review", len(log), hashlib.sha256(log).hexdigest()]
-    for what, words in (("plain", []), ("--json", ["--json"]), ("a page", ["--html", "page"]),
-                        ("details and a page", ["--details", "--html", "page"]), ("by two", ["--jobs", "2"])):
+    handed = [len(log), hashlib.sha256(log).hexdigest()]
+    for what, words, more in (("plain", [], []), ("--json", ["--json"], ["inspect"]), ("a page", ["--html", "page"], ["inspect"]),
+                              ("details and a page", ["--details", "--html", "page"], ["inspect"]), ("by two", ["--jobs", "2"], [])):
         for name in ("log", "log.gz", "-"):
             called = f"counted.{what.replace(' ', '-')}.{name}"
             with open("log", "rb") as source:
@@ -370,49 +370,47 @@ def check_counts(bench: Bench) -> None:
                 os.remove(words[-1])
             runs = [json.loads(it) for it in done.called]
             tell(f"{what}, {name}: the status", done.status == 0 and bool(done.out), done)
-            tell(f"{what}, {name}: ssign is run once", runs == [whole], runs)
+            tell(f"{what}, {name}: how often ssign is run", runs == [[it, *handed] for it in ("review", *more)], runs)
 
 
 def check_counts_of_findings(bench: Bench) -> None:
-    """How often ssign is run over a log with a changed message: once to count, and once more for each line."""
+    """How often ssign is run over a log with a changed message: once to count, once more for each line, and once for texts."""
     with open("log", "rb") as file:
         log = bytearray(file.read())
     log[log.index(b"message 77 ")] ^= 1
     with open("log.found", "wb") as file:
         file.write(log)
-    whole = ["review", len(log), hashlib.sha256(log).hexdigest()]
-    for what, words, count in (("plain", [], 2), ("--json", ["--json"], 1), ("--raw", ["--raw"], 2)):
+    handed = [len(log), hashlib.sha256(log).hexdigest()]
+    for what, words, wanted in (("plain", [], ["review", "review", "inspect"]), ("--json", ["--json"], ["review", "inspect"]),
+                                ("--raw", ["--raw"], ["review", "review"])):
         called = f"found.{what}"
         done = finished(bench.start(called, {}, *words, "log.found"), called)
         runs = [json.loads(it) for it in done.called]
         tell(f"{what}, a changed message: the status", done.status == 1 and bool(done.out), done)
-        tell(f"{what}, a changed message: how often ssign is run", runs == count * [whole], runs)
+        tell(f"{what}, a changed message: how often ssign is run", runs == [[it, *handed] for it in wanted], runs)
 
 
 def check_changed(bench: Bench) -> None:
-    """A log that is changed through a map after its review began: the SHA-256 is that of the octets that were handed over."""
+    """A log that is changed through a map while it is reviewed: the octets of no one moment were handed over, so the next run would get
+    others, and nothing is shown."""
     shutil.copyfile("log", "mapped")
     with open("mapped", "r+b") as file, mmap.mmap(file.fileno(), 0) as pages:
         places = 50, len(pages) - 700
         for place in places:
             pages[place] = pages[place]
-        before, status = hashlib.sha256(pages).hexdigest(), os.fstat(file.fileno()).st_ctime_ns
+        before = hashlib.sha256(pages).hexdigest()
         child = bench.start("changed", {"CHANGE": "1"}, "--json", "mapped")
         while not os.path.exists("changing") and child.poll() is None:
             time.sleep(0.01)
         for place in places:
             pages[place] ^= 1
         after = hashlib.sha256(pages).hexdigest()
-        os.remove("changing")
+        os.rename("changing", "changed-once")
         done = finished(child, "changed")
-        if done.status == 2 and os.fstat(file.fileno()).st_ctime_ns != status:
-            skips.skip("asking", "a map of a log, because its ctime moved")
-            return
-    handed = json.loads(done.called[0])
-    shown = [json.loads(it) for it in done.out.splitlines() if it.startswith(b'{"line":"checked"')]
-    tell("a log that is changed meanwhile: its change is a finding", done.status == 1, done)
-    tell("a log that is changed meanwhile: the octets are those of no one moment", handed[2] not in (before, after), handed)
-    tell("a log that is changed meanwhile: the SHA-256", [it["files"][0]["sha256"] for it in shown] == [handed[2]], (shown, handed))
+    first, *others = [json.loads(it) for it in done.called]
+    tell("a log that is changed meanwhile: it is refused", done.status == 2 and not done.out and CHANGED in done.complaint, done)
+    tell("a log that is changed meanwhile: what the review got", first[0] == "review" and first[2] not in (before, after), first)
+    tell("a log that is changed meanwhile: the next run gets other octets", all(it[2] == after for it in others), others)
 
 
 def main(tool: str, program: str) -> None:
@@ -422,7 +420,7 @@ def main(tool: str, program: str) -> None:
     check_counts_of_findings(bench)
     check_changed(bench)
     check_broken(bench)
-    print(f"asking: {passed} passed, {failed} failed{skips.more()}")
+    print(f"asking: {passed} passed, {failed} failed")
 
 
 if __name__ == "__main__":

@@ -1,6 +1,6 @@
 #!/usr/bin/env bash
-# `ssign-keys verify` runs ssign once and hands it the log once, and refuses a run that breaks off, or that doesn't read, ask and
-# wait in its order, at each step: tests/asking.py.
+# `ssign-keys verify` runs ssign once, and once more for texts and times, each over the same octets. It refuses a run that breaks off,
+# or that doesn't read, ask and wait in its order, at each step: tests/asking.py.
 # shellcheck source=tests/lib.sh
 . "$(dirname -- "$0")/lib.sh"
 need_program

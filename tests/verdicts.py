@@ -111,7 +111,7 @@ def wanted(line: str, stored: List[bytes], log: str, claims: Tuple[Dict[int, Dic
 
 def stamp(text: bytes) -> Optional[str]:
     """The TIMESTAMP of a message (RFC 5424, section 6.2.3); None where none stands there. No test has a wrong date."""
-    found = re.match(rb"<[0-9]{1,3}>1 (-|[0-9]{4}-[0-9]{2}-[0-9]{2}T[0-9]{2}:[0-9]{2}:[0-9]{2}(\.[0-9]{1,6})?"
+    found = re.match(rb"<(?:[0-9]|[1-9][0-9]|1[0-8][0-9]|19[01])>1 (-|[0-9]{4}-[0-9]{2}-[0-9]{2}T[0-9]{2}:[0-9]{2}:[0-9]{2}(\.[0-9]{1,6})?"
                      rb"(Z|[+-][0-9]{2}:[0-9]{2})) ", text)
     return found[1].decode() if found else None
 

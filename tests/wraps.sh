@@ -79,6 +79,20 @@ printf '<13>1 - h a p - - an ordinary message\n' >plain.log
 keys sign --key keys/private-key.pem --state state --lines plain.log
 holds 'a log without odd messages: nothing is said' test "$status" = 0 -a ! -s err
 
+# ---- an unlisted wrap is shown by its original, with the length of that; a message whose PRI is too great is none (RFC 5424, section 6.2.1)
+long=$(head -c 20000 /dev/zero | tr '\0' x)
+{
+    cat monday
+    frame "<13>1 - h a p wrapped - |$long"
+    frame "<13>1 - h|i a p|q wrapped - |${long//x/|}"
+    frame '<192>1 2026-11-27T14:00:00Z h a p wrapped - |no wrap'
+} >unlisted
+keys verify --key keys/public-key.pem unlisted
+holds 'long wraps: so many octets' test "$(grep -c '^  place [0-9]*, in a wrap: .* \.\. (20,000 octets)$' out)" = 2
+holds 'no wrap: it is shown as it is' grep -q '^  place [0-9]*: <192>1 2026-11-27T14:00:00Z h a p wrapped - |no wrap$' out
+keys verify --key keys/public-key.pem --json unlisted
+holds 'no wrap: it states no time' grep -q '"timestamp":null,"octets":52,"text":"<192>1 2026' out
+
 # ---- refusals
 keys sign --key keys/private-key.pem --rsid 1 --lines --wrap --set-aside more odd.log
 expect 'both options' 2 '' 'ssign-keys: --wrap and --set-aside: a message is signed in a wrap or set aside, so leave one of the two out'

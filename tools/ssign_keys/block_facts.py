@@ -7,17 +7,19 @@ from __future__ import annotations
 
 import json
 from dataclasses import dataclass, field, replace
-from typing import AbstractSet, BinaryIO, Dict, Iterable, Iterator, List, Optional, Set, Tuple
+from typing import AbstractSet, BinaryIO, Callable, Dict, Iterable, Iterator, List, Optional, Set, Tuple
 
 from .answer import Answered
 from .blocks import Session
 from .encoding import decode
-from .fragments import covers, read_fragment
+from .fragments import Fragment, covers
 from .identity import Finding, Identity, finding_of, note_of
 from .words import shown_name
 from .workplace import put
 
 GroupName = Tuple[int, int]
+# of the place of a block among those that were asked about: its fragment, if it is a certificate block of a disputed session
+FragmentAt = Callable[[int], Optional[Fragment]]
 UNSIGNED = Finding(None, "no whole payload was found in it that one of your keys signed")
 
 
@@ -40,7 +42,7 @@ class BlockFacts:
         """Whether validly signed fragments have all of the payload."""
         return self.length > 0 and covers(self.extents, self.length)
 
-    def add(self, it: Answered) -> None:
+    def add(self, it: Answered, fragment_at: FragmentAt) -> None:
         """Takes a validly signed block into account. A certificate block that doesn't agree with the payload vouches for nothing."""
         about = it.about
         assert about is not None
@@ -48,17 +50,18 @@ class BlockFacts:
             self.versions.add(about.version.decode("ascii"))
             self.greatest[about.group] = max(about.gbc, self.greatest.get(about.group, 0))
             return
-        _, payload, text, _ = it.line.split(b" ")
-        fragment, joined = read_fragment(decode(text) or b""), decode(payload) or b""
+        fragment = fragment_at(about.place)
+        joined = decode(it.line.split(b" ")[1]) or b"" if fragment is not None else b""
         if fragment is not None and fragment.agrees(joined):
-            self.extents.add((fragment.piece[1], len(fragment.piece[2])))
+            self.extents.add((fragment.begin, len(fragment.text)))
             self.length = len(joined)
 
 
-def noted(answered: Iterable[Answered], notes: BinaryIO) -> Iterator[Answered]:
+def noted(answered: Iterable[Answered], notes: BinaryIO, fragment_at: FragmentAt) -> Iterator[Answered]:
     """Gives on what was answered, and keeps what the blocks of each session vouch for.
 
-    Where several payloads are asked about in a session, what counts is said under the first that claims it.
+    Where several payloads are asked about in a session, what counts is said under the first that claims it. These were searched,
+    so the fragments of their blocks are known.
     """
     session: Optional[Session] = None
     # under the first payload, or under the one that claims the session, and under the present one
@@ -73,7 +76,7 @@ def noted(answered: Iterable[Answered], notes: BinaryIO) -> Iterator[Answered]:
         if (it.about is not None) == bool(it.line):
             facts = facts or BlockFacts(it.finding)
             if it.about is not None:
-                facts.add(it)
+                facts.add(it, fragment_at)
         yield it
     put_note(notes, session, better(kept, facts))
 

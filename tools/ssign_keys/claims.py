@@ -1,24 +1,22 @@
 """Unverified blocks that claim a joined session: what each would announce, and how many stored messages have its hashes.
 
-What is in a block, `ssign inspect` reads. Which stored messages have its hashes, ssign says too: it reviews the log once more, as
-if these blocks were validly signed. Nothing else of that report is used.
+What is in a block, `ssign inspect` reports. Which stored messages have its hashes, ssign reports too: it reviews the log once
+more, as if these blocks were validly signed. Nothing else of that report is used.
 """
 from __future__ import annotations
 
 import bisect
-import json
 from array import array
-from typing import BinaryIO, Dict, Iterable, Iterator, List, NamedTuple, Optional, Sequence, Set, Tuple
+from typing import BinaryIO, Dict, Iterator, List, NamedTuple, Optional, Sequence, Set, Tuple
 
 from .answer import Answered
 from .asked import session_of
 from .blocks import Session
+from .inspected import Object
 from .report import Group, ReportVisitor
 from .survey import Survey
 from .workplace import Workplace, finish, put
 
-# the fronts of what is read in blocks
-BLOCKS = (b'{"line":"signature"', b'{"line":"certificate"')
 # a session, SG and SPRI
 GroupKey = Tuple[Session, int, int]
 
@@ -48,47 +46,39 @@ class Unproved:
         """Nothing is kept yet. If ssign was handed only some messages of the log, these are their places."""
         self._lines = workplace.new_file("unproved")
         self._places = places
-        # each payload once, however many blocks are asked about under it
+        # each payload once, however many blocks are asked about under it, and each group
         self._payloads: List[bytes] = []
+        self._groups: Dict[GroupKey, int] = {}
 
     def take(self, it: Answered) -> None:
         """Keeps the line, if it is one of such a block."""
-        if it.about is None or it.unproved is None:
+        if it.about is None or it.session is None or it.unproved is None:
             return
         payload, rest = it.unproved
         if not self._payloads or self._payloads[-1] is not payload:
             self._payloads.append(payload)
+        group = self._groups.setdefault((it.session, *it.about.group), len(self._groups))
         place = it.about.place if self._places is None else self._places[it.about.place]
-        put(self._lines, b"%d %d %s\n" % (place, len(self._payloads) - 1, rest))
+        put(self._lines, b"%d %d %d %s\n" % (place, group, len(self._payloads) - 1, rest))
 
-    def put_lines(self, claims: "Claims", out: BinaryIO, most: int) -> bool:
-        """Adds the answer `yes` about each of these blocks to an answers file. Whether these are no more than so many octets."""
+    def put_lines(self, survey: Survey, out: BinaryIO, most: int) -> Set[GroupKey]:
+        """Adds the answer `yes` about each of these blocks that claims a joined session to an answers file. Gives the groups of
+        which they would announce numbers; none if the answers are more than so many octets."""
         finish(self._lines)
         self._lines.seek(0)
+        groups, found = list(self._groups), set()
         for kept in self._lines:
-            place, number, rest = kept.split(b" ", 2)
-            if claims.has(int(place)):
+            place, group, number, rest = kept.split(b" ", 3)
+            key = groups[int(group)]
+            if key[0] in survey.joined and is_among(survey.refused, int(place)):
                 payload = self._payloads[int(number)]
                 most -= len(payload) + len(rest)
                 if most < 0:
-                    return False
+                    return set()
                 put(out, b"yes %s %s" % (payload, rest))
+                found.add(key)
         finish(out)
-        return True
-
-
-def read_claims(objects: Iterable[bytes], refused: Sequence[int], joined: Set[Session]) -> "Claims":
-    """The blocks at these rising places that claim these sessions, by what `ssign inspect --json` reads in them."""
-    found = Claims()
-    for line in objects:
-        if not line.startswith(BLOCKS):
-            continue
-        it = json.loads(line)
-        session = session_of(it)
-        if session in joined and is_among(refused, it["place"]):
-            first = it.get("first", 0)
-            found.add(it["place"], Claim(session, it["sg"], it["spri"], it.get("gbc"), first, first + it.get("count", 1) - 1))
-    return found
+        return found
 
 
 class Claims:
@@ -110,8 +100,12 @@ class Claims:
         """Each of them, with how many stored messages have its hashes."""
         return ((self._claim(row), self._stored[row]) for row in range(len(self)))
 
-    def add(self, place: int, it: Claim) -> None:
-        """Takes a block."""
+    def take(self, it: Object) -> None:
+        """Takes the object of a block."""
+        first = it.get("first", 0)
+        self._add(it["place"], Claim(session_of(it), it["sg"], it["spri"], it.get("gbc"), first, first + it.get("count", 1) - 1))
+
+    def _add(self, place: int, it: Claim) -> None:
         self._rows[place] = len(self)
         self._owners.append(self._numbers.setdefault(it.session, len(self._numbers)))
         if len(self._sessions) < len(self._numbers):
@@ -122,10 +116,6 @@ class Claims:
         self._lasts.append(it.last)
         self._stored.append(0)
 
-    def has(self, place: int) -> bool:
-        """Whether such a block stands there."""
-        return place in self._rows
-
     def at(self, place: int) -> Optional[Tuple[Claim, int]]:
         """The block at a place, with how many stored messages have its hashes."""
         row = self._rows.get(place)
@@ -135,10 +125,6 @@ class Claims:
         gbc = self._gbcs[row]
         return Claim(self._sessions[self._owners[row]], self._groups[2 * row], self._groups[2 * row + 1], None if gbc < 0 else gbc,
                      self._firsts[row], self._lasts[row])
-
-    def announcing(self) -> Set[GroupKey]:
-        """The groups of which some of them would announce numbers."""
-        return {it.group for it, _ in self if it.gbc is not None}
 
     def compare(self, stored: "Stored") -> None:
         """Learns how many stored messages have the hashes of each of them."""

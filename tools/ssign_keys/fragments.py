@@ -1,55 +1,22 @@
-"""Reads the certificate blocks of a log as far as a payload is joined of them (RFC 5848, section 5.3.2).
-
-Which messages are such blocks, ssign says. What is read here is no more than what to ask it about.
-"""
+"""Joins the fragments of certificate blocks to payloads (RFC 5848, section 5.3.2). What is in a block, ssign reports."""
 from __future__ import annotations
 
-import re
 from bisect import bisect_right
-from typing import Dict, Iterable, Iterator, List, NamedTuple, Optional, Tuple
-
-from .blocks import HEADER, LONGEST_HEADER, Session
-from .schemes import PATTERN
-
-# the front of the element of a certificate block
-MARK = b"[ssign-cert "
-# No octet of a payload is escaped in a value. The signed octets have no SIGN.
-ELEMENT = (rb'\[ssign-cert VER="(?:' + PATTERN + rb')" RSID="([0-9]{1,10})" SG="[0-9]" SPRI="[0-9]{1,3}" TPBL="([0-9]{1,8})" '
-           rb'INDEX="([0-9]{1,8})" FLEN="[0-9]{1,4}" FRAG="([^"\\\]]+)"( SIGN="([A-Za-z0-9+/]+=*)")?\]')
-FIRST = re.compile(ELEMENT)
-LATER = re.compile(rb"\]" + ELEMENT)
-
-# a total, an index from 1 on, and octets
-Piece = Tuple[int, int, bytes]
+from typing import Dict, Iterable, Iterator, List, NamedTuple, Tuple
 
 
 class Fragment(NamedTuple):
-    """A certificate block."""
+    """A part of a payload."""
 
-    session: Session
-    piece: Piece
-    octets: bytes
-    """What its signature covers: the message without SIGN."""
-    signature: bytes
-    """The value of SIGN; empty where it has none."""
+    total: int
+    """How many octets the payload has."""
+    begin: int
+    """Where in it the part begins, from 1 on."""
+    text: bytes
 
     def agrees(self, payload: bytes) -> bool:
-        """Whether it states the length of a payload, and octets that stand there in it."""
-        total, index, text = self.piece
-        return total == len(payload) and index > 0 and payload.startswith(text, index - 1)
-
-
-def read_fragment(message: bytes) -> Optional[Fragment]:
-    """The certificate block that a message is, or None where none can be seen there."""
-    header = HEADER.match(message[:LONGEST_HEADER])
-    if not header:
-        return None
-    found = FIRST.match(message, header.end()) or LATER.search(message, header.end())
-    if not found:
-        return None
-    session = Session(header[1], header[2], header[3], found[1])
-    octets = message[:found.start(5)] + message[found.end(5):] if found[5] else message
-    return Fragment(session, (int(found[2]), int(found[3]), found[4]), octets, found[6] or b"")
+        """Whether a payload has this length, and these octets there."""
+        return self.total == len(payload) and self.begin > 0 and payload.startswith(self.text, self.begin - 1)
 
 
 def covers(extents: Iterable[Tuple[int, int]], total: int) -> bool:
@@ -79,7 +46,7 @@ class Joiner:
         """How many steps were taken."""
         return self._most - self._left
 
-    def texts(self, pieces: Iterable[Piece]) -> Iterator[bytes]:
+    def texts(self, pieces: Iterable[Fragment]) -> Iterator[bytes]:
         """Each text once that some of these fragments spell."""
         by_total: Dict[int, Dict[int, List[bytes]]] = {}
         for total, index, text in pieces:

@@ -4,10 +4,28 @@ What a frame is, and what is wrong with a log, ssign says. Here frames are only 
 """
 from __future__ import annotations
 
-from typing import Tuple
+import os
+import sys
+from typing import BinaryIO, Tuple
 
 # how many octets the greatest length of ssign and the space after it have
 LENGTH = 8
+# the greatest --max-len of ssign
+LONGEST = 1048576
+PIECE = 1 << 20
+
+
+def read_at(file: BinaryIO, offset: int, size: int) -> bytes:
+    """So many octets from there on, or fewer where the file ends."""
+    pieces = []
+    while size > 0:
+        piece = os.pread(file.fileno(), size, offset)
+        if not piece:
+            break
+        pieces.append(piece)
+        offset += len(piece)
+        size -= len(piece)
+    return b"".join(pieces)
 
 
 def frame_at(chunk: bytes, at: int) -> Tuple[int, int]:
@@ -35,3 +53,19 @@ def whole_frames(chunk: bytes, at: int, most: int, longest: int) -> Tuple[int, i
         at = behind
         went += 1
     return at, went
+
+
+def frames_end(file: BinaryIO, start: int, end: int) -> int:
+    """Where the whole frames end that follow one another in a file from its octet `start` on, up to the octet `end`."""
+    size = PIECE
+    while start < end:
+        chunk = read_at(file, start, min(size, end - start))
+        behind, _ = whole_frames(chunk, 0, len(chunk), sys.maxsize)
+        size = PIECE
+        if not behind:
+            text, length = frame_at(chunk, 0)
+            size = text + length
+            if not length or size > end - start or len(chunk) >= size:
+                break
+        start += behind
+    return start

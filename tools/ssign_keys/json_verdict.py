@@ -8,6 +8,7 @@ from .blocks import Session
 from .broken_blocks import Broken
 from .damage import Damaged
 from .identity import UNKNOWN, identity_fields
+from .inspected import most_shown
 from .json_text import compact
 from .pairs import Neighbour, Stretch
 from .reach import Reached
@@ -16,7 +17,6 @@ from .reviewed import Reviewed
 from .claims import Claim
 from .strangers import NO_CLAIMS
 from .stretch_visitor import StretchVisitor
-from .finder import most_shown
 from .verdict import sentence
 from .words import shown_name, spelled
 from .workplace import put
@@ -114,7 +114,7 @@ class JsonVerdict(StretchVisitor):
 
     def stray(self, kind: str, place: int, cause: str) -> None:
         """Writes a message that is unlisted, refused or spoilt."""
-        found = self._reviewed.finder.find(place, most_shown(kind))
+        found = self._reviewed.inspected.find(place, most_shown(kind))
         why: Dict[str, object] = {"cause": cause} if kind == "spoilt" else {}
         if kind == "unlisted":
             why["unproved"] = place in self._reviewed.unproved

@@ -7,7 +7,6 @@ from __future__ import annotations
 
 import bisect
 import hashlib
-import heapq
 import itertools
 import os
 import stat
@@ -21,9 +20,9 @@ from .expand import FRONT, PIECE, expanded, expanded_zstd, form_of, limited, mos
 from .faults import Fault
 from .files import IS_LINK, is_shared, open_given, reason
 from .form import form_of as form_of_log
+from .frames import LONGEST, read_at
 from .progress import Progress
 from .streams import say_waiting
-from .walk import LONGEST, Walk
 from .words import shown_name
 from .workplace import Workplace, finish, put
 
@@ -50,7 +49,8 @@ class Part:
 class Log:
     """All that was given, as one plain file.
 
-    A frame may begin in one of the logs and end in the next. So where their messages begin is known once `settle` was called.
+    A frame may begin in one of the logs and end in the next. So how many messages stand before each is known once `place_parts` was
+    called.
     """
 
     def __init__(self, file: BinaryIO, parts: Sequence[Part], are_lines: bool, is_copy: bool) -> None:
@@ -75,49 +75,10 @@ class Log:
         self.file.seek(0)
         return self.file
 
-    def walk(self) -> Walk:
-        """Goes over the messages."""
-        return Walk(self.file, self.are_lines, gaps=self._damaged())
-
-    def candidates(self, phase: str, progress: Progress) -> Iterator[Tuple[int, bytes]]:
-        """The messages that may be blocks, as they are stored, each with its frame or LF, and its place, which rises.
-
-        Which of them are blocks, ssign says. The phase is for a person at a terminal.
-        """
-        walk = self.walk()
-        for it in walk.candidates():
-            yield walk.place, it
-            progress.show(phase, walk.offset, self.size, "octets")
-
-    def bare(self, stored: bytes) -> bytes:
-        """A stored message without its frame or LF."""
-        return stored[:-1] if self.are_lines else stored[stored.index(b" ") + 1:]
-
-    def _damaged(self) -> Iterator[Tuple[int, int]]:
-        return iter(()) if self.damage is None else self.damage.gaps()
-
-    def _gaps(self) -> Iterable[Tuple[int, int]]:
-        """What is damaged, and where each log after the first begins."""
-        return iter(()) if self.are_lines else heapq.merge(self._damaged(), ((it, 0) for it in self._offsets[1:]))
-
-    def settle(self, damage: Optional[Damage], messages: int, torn: Optional[int]) -> None:
-        """Takes over what ssign says is damaged, and learns how many messages stand before each log. Raises ValueError if it has
-        other messages than ssign says. One log of which all octets are messages isn't read for it."""
-        self.damage = damage
-        if torn is None and not damage and len(self.parts) == 1:
-            return
-        walk = Walk(self.file, self.are_lines, gaps=self._gaps())
-        while walk.step(PIECE):
-            pass
-        if walk.place != messages or walk.offset != (self.size if torn is None else torn):
-            raise ValueError(f"it counts {messages} messages, and the log has {walk.place} up to octet {walk.offset}")
-        if self.are_lines:
-            return
-        gaps = list(zip(self._gaps(), itertools.chain(walk.passed, itertools.repeat(walk.place))))
-        if damage and [place for (_, length), place in gaps if length] != list(damage.places):
-            raise ValueError("other messages stand between damaged octets")
-        self._places = [0, *(min(place, walk.place) for (_, length), place in gaps if not length)]
-        self.parts = [replace(part, place=place) for part, place in zip(self.parts, self._places)]
+    def place_parts(self, places: Sequence[int]) -> None:
+        """Learns how many messages begin before each log."""
+        self._places = list(places)
+        self.parts = [replace(part, place=place) for part, place in zip(self.parts, places)]
 
     def position(self) -> int:
         """How far whoever reads the file has come, since a child that was given it moves the same position."""
@@ -213,8 +174,9 @@ def open_log(names: Sequence[str], named_form: Optional[bool], workplace: Workpl
             packed.append(spool_log(name, source, max_expanded, spool, workplace, progress))
     form = form_of_log(spool, starts, named_form)
     form.refuse_odd()
-    parts = measure(spool, starts, progress) if form.are_lines else [Part(name, start, 0) for name, start in starts]
-    parts = [replace(part, packed=it) for part, it in zip(parts, packed)]
+    if form.are_lines:
+        refuse_torn(spool, starts)
+    parts = [Part(name, start, 0, it) for (name, start), it in zip(starts, packed)]
     return Log(spool, parts, form.are_lines, True)
 
 
@@ -309,33 +271,22 @@ def read_pieces(source: BinaryIO, name: str, phase: str, progress: Progress) -> 
 
 # ---- several logs
 
-def measure(spool: BinaryIO, starts: Sequence[Tuple[str, int]], progress: Progress) -> List[Part]:
-    """Where each log of lines begins. Refuses one that breaks off in a message, but for the last.
+def refuse_torn(spool: BinaryIO, starts: Sequence[Tuple[str, int]]) -> None:
+    """Refuses a log of lines that breaks off in a message, but for the last.
 
     The octets of the next log would be read as the rest of that message. Whether they are its rest, only whoever cut
     the logs knows.
     """
-    size = look(spool)[0]
-    parts: List[Part] = []
-    place = 0
-    for number, (name, start) in enumerate(starts):
-        parts.append(Part(name, start, place))
-        if number + 1 == len(starts):
-            break
-        end = starts[number + 1][1]
-        walk = Walk(spool, True, start, end)
-        while walk.step(1 << 20):
-            progress.show("counting messages", walk.offset, size, "octets")
-        place += walk.place
-        if walk.offset < end:
-            if end - walk.offset > LONGEST:
-                # this is for ssign to refuse, and nothing after it counts
-                parts += [Part(it, at, place) for it, at in starts[number + 1:]]
-                break
-            octet = walk.offset - start
+    for (name, start), (_, end) in zip(starts, starts[1:]):
+        tail = read_at(spool, max(start, end - LONGEST - 1), min(end - start, LONGEST + 1))
+        left = len(tail) - tail.rfind(b"\n") - 1
+        if left > LONGEST:
+            # this is for ssign to refuse, and nothing after it counts
+            return
+        if left:
+            octet = end - left - start
             raise Fault(
                 f"the log {shown_name(name)} breaks off in the message that begins at its octet {octet}, so the next log "
                 f"can't be read after it: keep only what stands before (`head -c {octet}`), or, where the next log goes "
                 "on with this message, join the two (`cat`) and hand them over as one"
             )
-    return parts

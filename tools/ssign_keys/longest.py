@@ -7,7 +7,7 @@ from __future__ import annotations
 import bisect
 import heapq
 from array import array
-from typing import AbstractSet, Dict, Generic, List, NamedTuple, Optional, Tuple, TypeVar
+from typing import AbstractSet, Dict, Generic, List, NamedTuple, Optional, Sequence, Tuple, TypeVar
 
 from .survey import Survey
 from .blocks import Session
@@ -17,8 +17,8 @@ from .stretch_visitor import StretchVisitor
 from .words import grouped, shown
 
 It = TypeVar("It")
-# how many runs of a kind are always named
-NAMED = 3
+# how many runs of a kind are always named, and how many rows of a kind a page has
+NAMED, MOST_ROWS = 3, 200
 
 
 class Kind(NamedTuple):
@@ -130,6 +130,7 @@ class Weighed(StretchVisitor):
         """Keeps so many of each kind. Unlisted messages at these places are unproved."""
         super().__init__(survey)
         self._unproved = unproved
+        self._most = most
         self.runs: Dict[str, Longest[Run]] = {it: Longest(most) for it in KINDS}
         self.others: Dict[str, Longest[Found]] = {it: Longest(most) for it in KINDS}
         self.has_one_group = len(survey.reach) == 1
@@ -148,6 +149,24 @@ class Weighed(StretchVisitor):
     def count(self, kind: str) -> int:
         """How many numbers, messages or other findings of a kind there are."""
         return self.runs[kind].numbers + self.others[kind].entries
+
+    def rows(self) -> Dict[str, List[Tuple[Run, Sequence[int]]]]:
+        """The longest runs of each kind, with the places of the messages that are shown with each. About as many are as rows."""
+        chosen: Dict[str, List[Tuple[Run, Sequence[int]]]] = {}
+        for kind, runs in self.runs.items():
+            room = self._most
+            for run in runs.longest():
+                places = self._places_of(run, max(room, NAMED))
+                room -= len(places)
+                chosen.setdefault(kind, []).append((run, places))
+        return chosen
+
+    def _places_of(self, run: Run, most: int) -> Sequence[int]:
+        """The places of so many messages that are shown with a run."""
+        if run.session is None:
+            return range(run.stretch.first, run.stretch.last + 1)[:most]
+        stored = run.stored[:most]
+        return self._unlisted[stored.start:stored.stop]
 
     def taken(self, kind: str, run: Run) -> None:
         """Takes a run. A session that is gone is one finding, with all that is missing of it."""

@@ -12,6 +12,7 @@ from .blocks import Session
 from .counters_file import lines_of
 from .digests import sum_of
 from .faults import Fault
+from .frames import LONGEST
 from .json_text import compact
 from .kept import copy_counters
 from .logs import Log, open_file, open_log
@@ -23,9 +24,9 @@ from .payloads import present_stamp
 from .programs import Refused, Run, add_limit_arguments, add_program_argument, find_program, log_words
 from .progress import Progress
 from .refusals import fault_of
+from .salvage import SALVAGE, salvaged
 from .session_file import Ends
 from .streams import Output
-from .walk import Walk
 from .words import counted, shown_name
 from .workplace import Workplace, notify
 
@@ -146,7 +147,8 @@ def make_entry(arguments: argparse.Namespace, program: str, log: Log, workplace:
     name = name_for(bare(arguments.place))
     size, sha256 = sum_of(log.file, 0, log.size)
     left_out = None if arguments.left_out is None else read_left_out(arguments.left_out, session, groups, workplace)
-    return Entry(1, FIRST_SUM, signed, name, size, sha256, session, gbc, groups, set_aside_of(arguments.set_aside), left_out)
+    set_aside = set_aside_of(arguments.set_aside, program, workplace, progress)
+    return Entry(1, FIRST_SUM, signed, name, size, sha256, session, gbc, groups, set_aside, left_out)
 
 
 def read_left_out(paths: Sequence[str], session: Session, groups: Sequence[Extent], workplace: Workplace) -> LeftOut:
@@ -235,19 +237,18 @@ def inspected(program: str, words: List[str], log: Log, workplace: Workplace, pr
         raise Fault("the log holds no block, so it isn't a signed log")
 
 
-def set_aside_of(path: Optional[str]) -> Optional[SetAside]:
+def set_aside_of(path: Optional[str], program: str, workplace: Workplace, progress: Progress) -> Optional[SetAside]:
     """The file of messages that couldn't be signed."""
     if path is None:
         return None
     with open_file(path) as file:
-        size = os.fstat(file.fileno()).st_size
-        walk = Walk(file, False)
-        while walk.step(1 << 20):
-            pass
-        if walk.offset != size:
-            raise Fault(f"{shown_name(path)} isn't a file of whole frames: nothing is one at its octet {walk.offset}")
-        length, sha256 = sum_of(file, 0, size)
-    return SetAside(name_for(path), length, sha256, walk.place)
+        words = ["inspect", "--findings", SALVAGE, f"--max-len={LONGEST}"]
+        found = salvaged(Run(program, words, workplace, progress, file, subprocess.PIPE).lines(lambda: None))
+        octet = found.damage[0].offset if found.damage else found.torn
+        if octet is not None:
+            raise Fault(f"{shown_name(path)} isn't a file of whole frames: nothing is one at its octet {octet}")
+        length, sha256 = sum_of(file, 0, os.fstat(file.fileno()).st_size)
+    return SetAside(name_for(path), length, sha256, found.messages)
 
 
 # ---- copied

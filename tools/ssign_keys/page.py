@@ -11,9 +11,9 @@ from . import sha1
 from . import strangers
 from .blocks import Session
 from .damage import Damaged
-from .finder import most_shown
 from .identity import identity_lines
-from .longest import KINDS, NAMED, STRAYS, Longest, Run, Weighed, short, whose
+from .inspected import most_shown
+from .longest import KINDS, MOST_ROWS, NAMED, STRAYS, Longest, Run, Weighed, short, whose
 from .markup import Child, Markup, code, element, folded, joined, legend, listing, named, plain, swatch
 from .page_frame import front_of, write_page
 from .page_parts import (checked_part, cut, cut_table, foot, limits_part, repeat_part, verdict_part,
@@ -28,8 +28,8 @@ from .words import grouped, octets_for, shown_name
 
 # the first octets of a page, by which one is known
 FRONT = front_of("ssign-keys verify --html")
-# how many rows of a kind of finding, sessions and strips there are, and how many strips aren't folded
-MOST_ROWS, MOST_SESSIONS, MOST_STRIPS, SHOWN_STRIPS = 200, 500, 60, 4
+# how many sessions and strips there are, and how many strips aren't folded
+MOST_SESSIONS, MOST_STRIPS, SHOWN_STRIPS = 500, 60, 4
 # the kinds without runs of which the first box names the longest, with what they are
 LED = {"gone": "session", "out of order": "group"}
 HEADS = ("Where", "Between", "Text, or what it means")
@@ -226,16 +226,9 @@ class Page(Weighed):
 
     def _findings(self) -> List[Markup]:
         """The tables of all kinds."""
-        chosen: Dict[str, List[Tuple[Run, Sequence[int]]]] = {}
-        wanted: Dict[int, str] = {}
-        for kind, runs in self.runs.items():
-            room = MOST_ROWS
-            for run in runs.longest():
-                places = self._places_of(run, max(room, NAMED))
-                room -= len(places)
-                chosen.setdefault(kind, []).append((run, places))
-                wanted.update(dict.fromkeys(places, kind))
-        # texts are looked up by rising place, in one walk
+        chosen = self.rows()
+        wanted = {place: kind for kind, its in chosen.items() for _, places in its for place in places}
+        # what is left of the room for all texts depends on their order
         texts = {place: self._text(place, wanted[place]) for place in sorted(wanted)}
         made = []
         for kind, its in KINDS.items():
@@ -246,13 +239,6 @@ class Page(Weighed):
                                   *cut_table(kind.replace(" ", "-"), f"{its.meaning[0].upper()}{its.meaning[1:]}.", HEADS, rows,
                                              self.runs[kind].entries + self.others[kind].entries)))
         return made
-
-    def _places_of(self, run: Run, most: int) -> Sequence[int]:
-        """The places of so many messages that are shown with a run."""
-        if run.session is None:
-            return range(run.stretch.first, run.stretch.last + 1)[:most]
-        stored = run.stored[:most]
-        return self._reviewed.survey.unlisted[stored.start:stored.stop]
 
     def _row(self, run: Run, places: Sequence[int], found: Dict[int, Markup]) -> List[Child]:
         """The row of a run, with the first messages that are, or may be, its own."""
@@ -275,7 +261,7 @@ class Page(Weighed):
     def _text(self, place: int, kind: str) -> Markup:
         """The front of a message, or less of it where all texts together are too long."""
         most = most_shown(kind if kind in ("unverified", "spoilt") else "unlisted")
-        found = self._reviewed.finder.find(place, octets_for(most))
+        found = self._reviewed.inspected.find(place, octets_for(most))
         text, is_cut = found.shown(most)
         if len(text) > max(self._text_left, SHORT_TEXT):
             text, is_cut = found.shown(most, SHORT_TEXT)

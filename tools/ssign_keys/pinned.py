@@ -2,23 +2,29 @@
 
 Anybody can write certificate blocks into a log, and blocks that contradict each other leave a session without a key. ssign
 is given, as known beforehand, each payload that such a session's blocks spell, as far as a key that the reviewer trusts
-signed them. It decides by itself which of them claims a session.
+signed them. It decides by itself which of them claims a session. What is in a block, ssign reports.
 """
 from __future__ import annotations
 
 import base64
-from typing import Callable, Dict, FrozenSet, Iterable, Iterator, List, NamedTuple, Optional, Set, Tuple
+import bisect
+import json
+from array import array
+from typing import Any, BinaryIO, Dict, FrozenSet, Iterator, List, Mapping, NamedTuple, Optional, Sequence, Set, Tuple
 
 from .answer import answers
-from .asked import YES
+from .asked import YES, session_of
 from .blocks import Session
-from .encoding import decode
-from .fragments import MARK, Joiner, Piece, read_fragment
-from .keys import Numbers, PublicKey
+from .claims import is_among
+from .fragments import Fragment, Joiner
+from .json_text import compact
+from .keys import PublicKey
 from .payloads import state_key
+from .runs import Runs
+from .schemes import SCHEMES
 from .trust import Trust, Trusted
 from .words import grouped
-from .workplace import Workplace, finish, put
+from .workplace import finish, put
 
 # Of one session, so many different fragments are kept that nobody is known to have signed. More can be there only if strangers,
 # or the holder of a key, wrote them.
@@ -28,6 +34,35 @@ MOST_FRAGMENTS = 2000
 MOST_STEPS, FEWEST_STEPS = 300000, 2000
 # so many payloads are offered for one session
 MOST_TEXTS = 16
+INSPECT = ["inspect", "--findings", "--json"]
+SIGNATURE, CERTIFICATE = b'{"line":"signature"', b'{"line":"certificate"'
+# stands in the object of a certificate block alone whose place was named
+FRAGMENT = b'"fragment":'
+
+
+class Signed:
+    """The fragments that are validly signed, by the rising places of their blocks. Anybody may repeat one, so each takes little
+    room."""
+
+    def __init__(self) -> None:
+        """None yet."""
+        self.places = array("I")
+        self._which = array("I")
+        self._numbers: Dict[Fragment, int] = {}
+        self._fragments: List[Fragment] = []
+
+    def add(self, place: int, fragment: Fragment) -> None:
+        """Takes one."""
+        self.places.append(place)
+        self._which.append(self._numbers.setdefault(fragment, len(self._numbers)))
+        if len(self._fragments) < len(self._numbers):
+            self._fragments.append(fragment)
+
+    def at(self, place: int) -> Optional[Fragment]:
+        """The one at a place."""
+        at = bisect.bisect_left(self.places, place)
+        is_there = at < len(self.places) and self.places[at] == place
+        return self._fragments[self._which[at]] if is_there else None
 
 
 class Known(NamedTuple):
@@ -39,85 +74,106 @@ class Known(NamedTuple):
     """What is to be said of what couldn't be looked for, or be given."""
     unsigned: FrozenSet[Session] = frozenset()
     """The disputed sessions of which no validly signed payload was found."""
-    asks: Callable[[bytes], bool] = lambda stored: True
-    """Whether ssign has to ask about a message, which is given with its frame or LF."""
+    asked: Sequence[int] = ()
+    """The places of the blocks that ssign has to ask about."""
+    signed: Optional[Signed] = None
+    """The validly signed ones of the disputed sessions."""
+
+    def fragment_at(self, at: int) -> Optional[Fragment]:
+        """The fragment of one of the blocks that are asked about, if it is one of these."""
+        return None if self.signed is None else self.signed.at(self.asked[at])
+
+
+class Block(NamedTuple):
+    """A certificate block of a disputed session."""
+
+    place: int
+    session: Session
+    fragment: Fragment
+    fields: Dict[str, Any]
+    """All that ssign reports of it."""
 
 
 class Search:
     """Looks for such payloads in a log."""
 
-    def __init__(self, candidates: Callable[[], Iterable[bytes]], are_lines: bool, workplace: Workplace) -> None:
-        """The log is gone over more than once: each time `candidates` gives the messages that may be blocks, as they are stored,
-        each with its frame or LF."""
-        self._candidates = candidates
-        self._are_lines = are_lines
-        self._workplace = workplace
+    def __init__(self, runs: Runs, disputed: Set[Session]) -> None:
+        """Certificate blocks of the disputed sessions contradict each other."""
+        self._runs = runs
+        self._disputed = disputed
         self._sentences: List[str] = []
         # the sessions of which not all was looked at
         self._cut: Set[Session] = set()
-        # the disputed sessions, and what was signed of their certificate blocks, as hashes of octets and signature in base64
-        self._disputed: Set[Session] = set()
-        self._signed: Set[int] = set()
+        # the places of all blocks, and of the certificate blocks of these sessions
+        self._blocks, self._certificates = array("I"), array("I")
+        # of these the validly signed ones
+        self._signed = Signed()
 
-    def run(self, disputed: Set[Session], trust: Trust, jobs: int) -> Known:
-        """What to give to ssign, where certificate blocks of these sessions contradict each other."""
-        self._disputed = disputed
-        if not disputed:
+    def run(self, trust: Trust, jobs: int) -> Known:
+        """What to give to ssign."""
+        if not self._disputed:
             return Known([], [])
-        keys = {session: trust.keys_for(session) for session in disputed}
-        if trust.has_authorities:
-            self._add_certified(keys, trust)
-        texts, signed = self._signed_texts(keys, trust, jobs)
-        unsigned = frozenset(disputed - signed - self._cut)
-        if not texts:
-            return Known([], self._sentences, unsigned)
-        with self._workplace.new_file("pinned") as file:
-            for text in texts:
-                put(file, b"trust %s\n" % base64.b64encode(text))
-            finish(file)
-        return Known([f"--pinned={self._workplace.path('pinned')}"], self._sentences, unsigned, self._asks)
+        self._name_blocks()
+        path = self._runs.places_file("certificate-places", self._certificates)
+        with self._runs.output("certificates", [*INSPECT, f"--facts={path}"]) as inspected:
+            keys = {session: trust.keys_for(session) for session in self._disputed}
+            if trust.has_authorities:
+                self._add_certified(inspected, keys, trust)
+            texts, signed = self._signed_texts(inspected, keys, trust, jobs)
+            unsigned = frozenset(self._disputed - signed - self._cut)
+            if not texts:
+                return Known([], self._sentences, unsigned)
+            with self._runs.workplace.new_file("pinned") as file:
+                for text in texts:
+                    put(file, b"trust %s\n" % base64.b64encode(text))
+                finish(file)
+            words = [f"--pinned={self._runs.workplace.path('pinned')}"]
+            return Known(words, self._sentences, unsigned, self._asked_about(inspected), self._signed)
 
-    def _asks(self, stored: bytes) -> bool:
-        """Whether a message isn't a certificate block of a disputed session that none of its keys signed.
+    # ---- blocks
+
+    def _name_blocks(self) -> None:
+        """Learns where blocks stand."""
+        with self._runs.output("blocks", INSPECT) as inspected:
+            for line in inspected:
+                if line.startswith((SIGNATURE, CERTIFICATE)):
+                    it = json.loads(line)
+                    self._blocks.append(it["place"])
+                    if it["line"] == "certificate" and session_of(it) in self._disputed:
+                        self._certificates.append(it["place"])
+
+    def _each(self, inspected: BinaryIO) -> Iterator[Block]:
+        """The certificate blocks of the disputed sessions."""
+        inspected.seek(0)
+        for line in inspected:
+            if FRAGMENT in line and line.startswith(CERTIFICATE):
+                it = json.loads(line)
+                yield Block(it["place"], session_of(it), Fragment(it["total"], it["index"], base64.b64decode(it["fragment"])), it)
+
+    def _asked_about(self, inspected: BinaryIO) -> "array[int]":
+        """The places of all blocks, but for the certificate blocks of disputed sessions that none of their keys signed.
 
         Such a block speaks for no payload. Strangers may have written many that hold the octets of each payload that is offered,
         and ssign would ask about each of them, and each other block of their session, once for each of these payloads.
         """
-        found = read_fragment(self._message(stored)) if MARK in stored else None
-        if found is None or found.session not in self._disputed or found.session in self._cut:
-            return True
-        return hash((base64.b64encode(found.octets), found.signature)) in self._signed
-
-    # ---- messages
-
-    def _certificates(self) -> Iterator[bytes]:
-        """The messages that may be certificate blocks, each with its frame or LF."""
-        for stored in self._candidates():
-            if MARK in stored:
-                yield stored
-
-    def _messages(self) -> Iterator[bytes]:
-        """The same without frame or LF."""
-        yield from map(self._message, self._certificates())
-
-    def _message(self, stored: bytes) -> bytes:
-        return stored[:-1] if self._are_lines else stored[stored.index(b" ") + 1:]
+        cut = array("I", (it.place for it in self._each(inspected) if it.session in self._cut) if self._cut else ())
+        return array("I", (it for it in self._blocks if not is_among(self._certificates, it) or is_among(self._signed.places, it)
+                           or is_among(cut, it)))
 
     # ---- keys
 
-    def _add_certified(self, keys: Dict[Session, List[PublicKey]], trust: Trust) -> None:
+    def _add_certified(self, inspected: BinaryIO, keys: Dict[Session, List[PublicKey]], trust: Trust) -> None:
         """Adds the keys of certificates that an authority issued, as fragments spell them that nobody is known to have
         signed."""
-        pieces: Dict[Session, Dict[Piece, None]] = {session: {} for session in keys}
-        for message in self._messages():
-            found = read_fragment(message)
-            if found is None or found.session not in pieces or found.piece[0] > trust.longest:
+        pieces: Dict[Session, Dict[Fragment, None]] = {session: {} for session in keys}
+        for it in self._each(inspected):
+            if it.fragment.total > trust.longest:
                 continue
-            of_session = pieces[found.session]
+            of_session = pieces[it.session]
             if len(of_session) < MOST_FRAGMENTS:
-                of_session[found.piece] = None
-            elif found.piece not in of_session:
-                self._cut.add(found.session)
+                of_session[it.fragment] = None
+            elif it.fragment not in of_session:
+                self._cut.add(it.session)
         left = MOST_STEPS
         # those with many fragments come last, so that they take no steps from others
         for session, found_pieces in sorted(pieces.items(), key=lambda it: (len(it[1]), it[0])):
@@ -135,10 +191,11 @@ class Search:
 
     # ---- payloads
 
-    def _signed_texts(self, keys: Dict[Session, List[PublicKey]], trust: Trust, jobs: int) -> Tuple[List[bytes], Set[Session]]:
+    def _signed_texts(self, inspected: BinaryIO, keys: Dict[Session, List[PublicKey]], trust: Trust,
+                      jobs: int) -> Tuple[List[bytes], Set[Session]]:
         """The payloads that validly signed fragments of these sessions spell under these keys, if they are trusted there, and the
         sessions that have one."""
-        pieces = self._signed_pieces(keys, jobs)
+        pieces = self._signed_pieces(inspected, keys, jobs)
         texts: Dict[bytes, None] = {}
         signed: Set[Session] = set()
         for (session, _), found in pieces.items():
@@ -152,31 +209,52 @@ class Search:
                 self._cut.add(session)
         return list(texts), signed
 
-    def _signed_pieces(self, keys: Dict[Session, List[PublicKey]], jobs: int) -> Dict[Tuple[Session, bytes], Dict[Piece, None]]:
-        """The fragments that are validly signed, by their sessions and by the payload that stands for their key.
+    def _signed_pieces(self, inspected: BinaryIO, keys: Dict[Session, List[PublicKey]],
+                       jobs: int) -> Dict[Tuple[Session, int], Dict[Fragment, None]]:
+        """The fragments that are validly signed, by their sessions and by the number of their key.
 
         They are asked about as ssign asks about blocks, under payloads that state no time.
         """
         every = list({key.numbers: key for of_session in keys.values() for key in of_session}.values())
-        stated = {key.numbers: base64.b64encode(state_key(key, "-")) for key in every}
+        stated = [base64.b64encode(state_key(it, "-")) for it in every]
         trust = Trust({key.numbers: Trusted("", key, None) for key in every}, [], [], {}, False)
-        pieces: Dict[Tuple[Session, bytes], Dict[Piece, None]] = {}
-        with answers(self._asked(keys, stated), trust, jobs) as answered:
-            for it in answered:
-                _, payload, octets, signature = it.line.rstrip(b"\n").split(b" ")
-                self._signed.add(hash((octets, signature)))
-                found = read_fragment(decode(octets) or b"")
-                if found is not None:
-                    pieces.setdefault((found.session, payload), {})[found.piece] = None
+        numbers = {key.numbers: number for number, key in enumerate(every)}
+        of_sessions = {session: [numbers[it.numbers] for it in of_session] for session, of_session in keys.items()}
+        # the places of what is valid, which rise, and the numbers of the keys
+        places, signers = array("I"), array("I")
+        with answers(self._questions(inspected, stated, of_sessions), trust, jobs, True) as answered:
+            for answer in answered:
+                if answer.about is not None:
+                    places.append(answer.about.place)
+                    signers.append(stated.index(answer.line.split(b" ", 2)[1]))
+        pieces: Dict[Tuple[Session, int], Dict[Fragment, None]] = {}
+        for it in self._each(inspected):
+            span = range(bisect.bisect_left(places, it.place), bisect.bisect_right(places, it.place))
+            for at in span:
+                pieces.setdefault((it.session, signers[at]), {})[it.fragment] = None
+            if span:
+                self._signed.add(it.place, it.fragment)
         return pieces
 
-    def _asked(self, keys: Dict[Session, List[PublicKey]], stated: Dict[Numbers, bytes]) -> Iterator[bytes]:
-        """The questions about the fragments of these sessions, under each key."""
-        for message in self._messages():
-            found = read_fragment(message)
-            if found is None or decode(found.signature) is None:
-                continue
-            octets: Optional[bytes] = None
-            for key in keys.get(found.session, []):
-                octets = octets or base64.b64encode(found.octets)
-                yield b"%s %s %s %s\n" % (YES, stated[key.numbers], octets, found.signature)
+    def _questions(self, inspected: BinaryIO, stated: Sequence[bytes],
+                   of_sessions: Mapping[Session, Sequence[int]]) -> Iterator[bytes]:
+        """The questions about the certificate blocks, under each key of their session, as objects of ssign."""
+        for payload in stated:
+            yield line_of({"line": "payload", "payload": payload.decode("ascii")})
+        for it in self._each(inspected):
+            signed = base64.b64decode(it.fields["signed"])
+            # an inspection doesn't state VER. Under one that doesn't stand there nothing was signed
+            versions = [name.decode("ascii") for name in SCHEMES if b'VER="%s"' % name in signed]
+            for number in of_sessions[it.session]:
+                for version in versions:
+                    yield line_of({"line": YES.decode("ascii"), "payload_index": number, "octets": it.fields["signed"],
+                                   "ver": version, **{key: it.fields[key] for key in ABOUT}})
+
+
+# what a question about a block has of what an inspection reports
+ABOUT = ("signature", "place", "host", "app", "procid", "rsid", "sg", "spri")
+
+
+def line_of(fields: Dict[str, object]) -> bytes:
+    """A line with an object."""
+    return compact(fields).encode("ascii") + b"\n"

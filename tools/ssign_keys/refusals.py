@@ -8,13 +8,13 @@ from typing import Callable, Dict, NamedTuple, Optional, Sequence, Tuple
 
 from .explanations import explained
 from .faults import Fault
+from .frames import frames_end, read_at
 from .likely import FRONT, LINES, is_surely_framed, likely_cause, looks_framed
 from .logs import Log
 from .programs import Refused
 from .schemes import VERSIONS
 from .texts import not_utf8, out_of_form, quoted
 from .unsigned import part_that_fails
-from .walk import Walk, read_at
 from .words import shown, shown_name
 from .workplace import notify
 
@@ -189,10 +189,7 @@ def broken_off(case: Case) -> Optional[str]:
 def bad_length(case: Case) -> str:
     """F1. No option of ssign-keys reads on, as --salvage of ssign does."""
     name, octet, start = case.octet()
-    walk = Walk(case.opened().file, False, start, case.where)
-    while walk.step(1 << 20):
-        pass
-    frame = walk.offset - start
+    frame = frames_end(case.opened().file, start, case.where) - start
     if frame == 0:
         cause = likely_cause(case.front(start))
         if cause == LINES and getattr(case.arguments, "frames", False):

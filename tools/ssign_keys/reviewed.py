@@ -6,7 +6,8 @@ from typing import TYPE_CHECKING, AbstractSet, NamedTuple, Optional, Tuple
 from .survey import Survey
 from .kept import Counters
 from .logs import Log
-from .finder import Finder
+from .inspected import Inspected
+from .shown import Shown
 from .verdict import Facts
 from .block_facts import Notes
 
@@ -27,7 +28,10 @@ class Reviewed(NamedTuple):
     """All that a form of the report is made of, but for the lines."""
 
     log: Log
-    finder: Finder
+    inspected: Inspected
+    """The messages that are shown."""
+    shown: Shown
+    """Which these are."""
     notes: Notes
     survey: Survey
     facts: Facts

@@ -7,19 +7,22 @@ from __future__ import annotations
 
 import argparse
 import contextlib
+import json
+import os
 import re
-import subprocess
+from array import array
 from types import TracebackType
-from typing import BinaryIO, Dict, Iterator, List, NamedTuple, Optional, Type
+from typing import BinaryIO, Dict, Iterable, Iterator, List, NamedTuple, Optional, Type
 
 from .explanations import first_sentence
 from .faults import Fault
+from .frames import LONGEST, read_at
 from .kept_file import KeptFile
 from .logs import Log, Part
 from .programs import Run
 from .progress import Progress
+from .runs import write_places
 from .unread_lines import Unread, unread_lines
-from .walk import LONGEST, Walk, read_at
 from .words import counted, shown_name
 from .workplace import Workplace, finish, put, notify
 
@@ -38,6 +41,8 @@ class Odd(NamedTuple):
     place: int
     what: str
     """What it is, in the words of `ssign inspect`, as `unparsed M3 17`; or of a line that it doesn't read."""
+    octets: int = 0
+    """How many octets it has, if it was read as a message."""
 
     def kind(self, program: str) -> str:
         """Why it can't be signed, in the words of the program where it has a code."""
@@ -91,27 +96,16 @@ class SetAside:
         """The log without the messages that can't be signed; the same log where there are none, or without the option."""
         if self._path is None:
             return log
-        longest = longest_of(words)
-        readable = without_unread(log, longest, workplace)
-        inspecting = Run(program, ["inspect", "--findings", *words], workplace, progress, readable.rewind(), subprocess.PIPE)
-        with workplace.new_file("aside") as messages, workplace.new_file("aside.places") as places:
-            kept = workplace.new_file("signable")
-            sorting = Sorting(program, log, readable, longest, kept, messages, places, progress)
-            for it in odd_messages(inspecting.lines(lambda: progress.show("inspecting", readable.position(), readable.size,
-                                                                          "octets")), log):
-                sorting.take(it)
-            sorting.take_unread()
-            log.check_unchanged()
-            self.count = sorting.count
-            if not sorting.count:
-                return log
-            sorting.end()
-            for file in (messages, places, kept):
-                finish(file)
-            self._messages.keep(workplace.path("aside"))
-            self._places.keep(workplace.path("aside.places"))
+        sorting = Sorting(program, words, log, workplace, progress)
+        signable = sorting.run()
+        log.check_unchanged()
+        self.count = sorting.count
+        if not sorting.count:
+            return log
+        self._messages.keep(workplace.path("aside"))
+        self._places.keep(workplace.path("aside.places"))
         self._sorting = sorting
-        return Log(kept, [Part(log.parts[0].name, 0, 0)], log.are_lines, True)
+        return signable
 
     def notify(self) -> None:
         """Says what was put apart, once the signed log is written."""
@@ -127,19 +121,20 @@ class SetAside:
             notify(f"  {shown_name((self._path or '') + '.places')} has the place of each")
 
 
-def odd_messages(lines: Iterator[bytes], log: Log) -> Iterator[Odd]:
-    """The messages that can't be signed, by rising place, from the lines of `ssign inspect --findings`."""
-    for line in lines:
-        word, *fields = line.decode("ascii").rstrip("\n").split(" ")
+def odd_messages(objects: Iterable[bytes], log: Log) -> Iterator[Odd]:
+    """The messages that can't be signed, by rising place, from the objects of `ssign inspect --findings`. The last one is the end,
+    whose place is how many messages there are."""
+    for it in map(json.loads, objects):
+        word = it["line"]
         if word == "torn":
             raise Fault(f"the log {shown_name(log.parts[0].name)} breaks off in the message that begins at its octet "
-                        f"{fields[0]}, so it can't be signed")
+                        f"{it['offset']}, so it can't be signed")
         if word == "end":
-            return
-        if word == "unparsed":
-            yield Odd(int(fields[0]), " ".join((word, *fields[1:])))
+            yield Odd(it["count"], word)
+        elif word == "unparsed":
+            yield Odd(it["place"], f"{word} {it['part']} {it['offset']}", it["octets"])
         elif word in BLOCKS:
-            yield Odd(int(fields[0]), " ".join((word, *fields[1:])) if word == "spoilt" else word)
+            yield Odd(it["place"], f"{word} {it['cause']}" if word == "spoilt" else word, it["octets"])
         else:
             raise Fault(f"ssign inspect wrote a line that isn't known here: {word}")
 
@@ -180,73 +175,94 @@ def copy(log: Log, start: int, end: int, file: BinaryIO) -> None:
 
 
 class Sorting:
-    """Goes over a log, and copies each message to one of two files."""
+    """Puts apart what can't be signed of a log. The messages themselves, ssign copies."""
 
-    def __init__(self, program: str, whole: Log, log: Log, longest: int, kept: BinaryIO, messages: BinaryIO, places: BinaryIO,
-                 progress: Progress) -> None:
-        """Nothing is copied yet. `log` is the whole one without the lines that ssign doesn't read."""
+    def __init__(self, program: str, words: List[str], log: Log, workplace: Workplace, progress: Progress) -> None:
+        """Nothing is put apart yet."""
         self.program = program
-        self._whole = whole
-        self._unread = unread_of(whole, longest)
+        self._words = words
+        self._whole = log
+        self._workplace = workplace
+        self._progress = progress
+        longest = longest_of(words)
+        # the log without the lines that ssign doesn't read
+        self._log = without_unread(log, longest, workplace)
+        self._unread = unread_of(log, longest)
         self._next = next(self._unread, None)
         # how many of these lines stand before the message at hand
         self._before = 0
-        self._log = log
-        self._walk = Walk(log.file, log.are_lines)
-        self._kept = kept
-        self._messages = messages
-        self._places = places
-        self._progress = progress
+        self._messages, self._places = workplace.new_file("aside"), workplace.new_file("aside.places")
         self.count = 0
         self.named: List[Odd] = []
         self.kinds: Dict[str, int] = {}
 
-    def take(self, odd: Odd) -> None:
-        """Puts a message apart, and keeps those before it."""
-        self.take_unread(odd.place)
-        walk, start = self._walk, self._walk.offset
-        while walk.place < odd.place:
-            if not walk.step(odd.place - walk.place):
-                raise self._log.changed()
-        self._keep(start, walk.offset)
-        text = walk.message()
-        if text is None or not walk.step(1):
-            raise self._log.changed()
-        self._put(odd._replace(place=odd.place + self._before), text)
-        self._count(odd._replace(place=odd.place + self._before))
+    def run(self) -> Log:
+        """The log without what is put apart."""
+        with self._output("odd", ["inspect", "--findings", "--json", f"--facts={os.devnull}"]) as objects:
+            *places, end = (it.place for it in odd_messages(objects, self._whole))
+            odd = array("I", places)
+            objects.seek(0)
+            with self._output("odd-messages", ["extract", self._places_word("odd-places", odd)]) as frames:
+                for it in odd_messages(objects, self._whole):
+                    self._take(it, frames)
+        self._take_unread()
+        for file in (self._messages, self._places):
+            finish(file)
+            file.close()
+        if not odd:
+            return self._log
+        others = self._places_word("other-places", others_than(odd, end))
+        signable = self._output("signable", ["extract", others, *(["--lines-out"] if self._whole.are_lines else [])])
+        return Log(signable, [Part(self._whole.parts[0].name, 0, 0)], self._whole.are_lines, True)
 
-    def take_unread(self, place: Optional[int] = None) -> None:
+    def _output(self, name: str, words: List[str]) -> BinaryIO:
+        """What ssign writes of the log, in a passing file."""
+        out, log = self._workplace.new_file(name), self._log
+        run = Run(self.program, [*words, *self._words], self._workplace, self._progress, log.rewind(), out)
+        run.end(lambda: self._progress.show("setting messages aside", log.position(), log.size, "octets"))
+        out.seek(0)
+        return out
+
+    def _places_word(self, name: str, places: Iterable[int]) -> str:
+        """The option that names places."""
+        return f"--places={write_places(self._workplace, name, places)}"
+
+    def _take(self, odd: Odd, frames: BinaryIO) -> None:
+        """Puts a message apart, whose frame is the next one of these."""
+        self._take_unread(odd.place)
+        if odd.octets:
+            it = odd._replace(place=odd.place + self._before)
+            put(self._messages, frames.read(len(b"%d " % it.octets) + it.octets))
+            self._count(it)
+
+    def _take_unread(self, place: Optional[int] = None) -> None:
         """Puts the lines apart that ssign doesn't read, and that stand before a message; all where none is given."""
         while self._next is not None and (place is None or self._next.place <= place + self._before):
             it, self._next = self._next, next(self._unread, None)
             self._before += 1
-            odd = Odd(it.place, it.what)
             for at in range(it.start, it.end, LONGEST):
                 # no frame is longer than what ssign can read
                 piece = read_at(self._whole.file, at, min(LONGEST, it.end - at))
                 if not piece:
                     raise self._whole.changed()
-                self._put(odd, piece)
-            self._count(odd)
+                put(self._messages, b"%d %s" % (len(piece), piece))
+                put(self._places, f"{it.place} {it.what}\n".encode("ascii"))
+            self._count(Odd(it.place, it.what), False)
 
-    def _put(self, odd: Odd, text: bytes) -> None:
-        """Puts a message apart, as a frame, and its place."""
-        put(self._messages, b"%d %s" % (len(text), text))
-        put(self._places, f"{odd.place} {odd.what}\n".encode("ascii"))
-
-    def _count(self, odd: Odd) -> None:
-        """Counts a message that was put apart."""
+    def _count(self, odd: Odd, is_message: bool = True) -> None:
+        """Counts what was put apart."""
+        if is_message:
+            put(self._places, f"{odd.place} {odd.what}\n".encode("ascii"))
         self.count += 1
         if len(self.named) < NAMED:
             self.named.append(odd)
         kind = odd.kind(self.program)
         self.kinds[kind] = self.kinds.get(kind, 0) + 1
 
-    def end(self) -> None:
-        """Keeps the rest."""
-        self._keep(self._walk.offset, self._log.size)
 
-    def _keep(self, start: int, end: int) -> None:
-        """Copies octets of the log to what is signed."""
-        copy(self._log, start, end, self._kept)
-        self._progress.show("setting messages aside", end, self._log.size, "octets")
+def others_than(places: Iterable[int], end: int) -> Iterator[int]:
+    """The places up to an end that aren't among these rising ones."""
+    first = 0
+    for it in (*places, end):
+        yield from range(first, it)
+        first = it + 1

@@ -1,4 +1,4 @@
-"""What of a report is known before anything of it is shown: its counts, which messages are unlisted, how far each group goes."""
+"""What of a report is known before anything of it is shown: its counts, which messages have lines, how far each group goes."""
 from __future__ import annotations
 
 from array import array
@@ -27,7 +27,7 @@ def messages_of(report: BinaryIO) -> int:
 
 
 class Survey(ReportVisitor):
-    """Counts the lines of a report, and keeps which messages are unlisted, and how far each group goes."""
+    """Counts the lines of a report, and keeps which messages are unlisted, unverified or spoilt, and how far each group goes."""
 
     def __init__(self, notes: Notes, is_whole: bool, counters: Optional[Counters], begin: Optional[Counters],
                  is_in_order: bool, drawn: int) -> None:
@@ -36,6 +36,7 @@ class Survey(ReportVisitor):
         self.damage = Damage()
         self.unlisted = array("I")
         self.refused = array("I")
+        self.spoilt = array("I")
         self.joined: Set[Session] = set()
         self.disputed: Set[Session] = set()
         # the fingerprint of each other key than the given ones, and how many untrusted sessions state it
@@ -136,10 +137,7 @@ class Survey(ReportVisitor):
     def stray(self, kind: str, place: int, cause: str) -> None:
         """Takes a place."""
         self._name((place,))
-        if kind == "unlisted":
-            self.unlisted.append(place)
-        elif kind == "refused":
-            self.refused.append(place)
+        {"unlisted": self.unlisted, "refused": self.refused, "spoilt": self.spoilt}[kind].append(place)
 
     def damaged(self, stretch: Damaged) -> None:
         """Keeps it."""

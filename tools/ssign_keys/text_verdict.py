@@ -4,25 +4,24 @@ A list of many lines is shown in short, so that a person finds what matters. `--
 """
 from __future__ import annotations
 
-from typing import BinaryIO, Dict, List, NamedTuple, Optional, Sequence
+from typing import BinaryIO, Dict, List, NamedTuple, Optional
 
 from . import sha1
 from . import strangers
 from .blocks import Session
 from .damage import Damaged
-from .frames import LENGTH, frame_at
+from .frames import LENGTH, frame_at, read_at
 from .identity import identity_lines
+from .inspected import most_shown
 from .logs import Log
 from .longest import NAMED, Weighed, numbers_words, order_words, whose
 from .pairs import Neighbour, Stretch
 from .reach import Reached
 from .report import Group
 from .reviewed import Reviewed
-from .finder import most_shown
 from .summaries import FEW, Few, Runs
 from .verdict import sentence
 from .block_facts import BlockFacts
-from .walk import read_at
 from .words import grouped, octets_for, shown, shown_name
 from .workplace import put
 
@@ -63,16 +62,6 @@ LISTS = {
     "blocks": Listed("  ", "missing signature blocks", "block"), "missing": Listed("    ", "missing numbers", "number"),
     "disputed": Listed("    ", "disputed numbers", "number"), "unannounced": Listed("    ", "unannounced numbers", "number"),
 }
-
-
-class Pair(NamedTuple):
-    """Missing numbers of a group, with their neighbours, and the places of what they likely became."""
-
-    group: Group
-    first: int
-    last: int
-    stretch: Stretch
-    places: Sequence[int]
 
 
 def session_words(session: Session) -> str:
@@ -195,8 +184,6 @@ class TextVerdict(Weighed):
         self._states: Dict[str, Few] = {}
         # where the present session is grouped as one that isn't shown
         self._left: Optional[Few] = None
-        self._pairs: List[Pair] = []
-        self._pair_count = 0
         self._lists: Dict[str, Few] = {}
         self._kind = ""
         self._shown = 0
@@ -307,14 +294,6 @@ class TextVerdict(Weighed):
         else:
             for number in range(stretch.first, stretch.last + 1):
                 self._show("disputed", 1, f"disputed: number {number}; verified blocks announce two different messages for it")
-        if not stretch.is_paired:
-            return
-        self._pair_count += len(stretch.likely) if stretch.is_matched else 1
-        if not stretch.is_matched and len(self._pairs) < FEW:
-            self._pairs.append(Pair(group, stretch.first, stretch.last, stretch, stretch.likely))
-        elif stretch.is_matched:
-            self._pairs += [Pair(group, it, it, stretch, stretch.likely_of(it))
-                            for it in range(stretch.first, min(stretch.last + 1, stretch.first + FEW - len(self._pairs)))]
 
     def _between(self, before: Optional[Neighbour], behind: Optional[Neighbour]) -> str:
         """When the neighbours of these numbers were sent, where that is to be shown."""
@@ -364,7 +343,7 @@ class TextVerdict(Weighed):
     def _text(self, place: int, kind: str) -> str:
         # what is said of the text stands in front of its colon, where no text of a log can stand
         most = most_shown(kind)
-        found = self._reviewed.finder.find_original(place, octets_for(most))
+        found = self._reviewed.inspected.find_original(place, octets_for(most))
         text, is_cut = found.shown(most)
         more = f" .. ({found.octets:,} octets)" if is_cut else ""
         return f"{', in a wrap' if found.is_original else ''}: {text}{more}"
@@ -423,21 +402,18 @@ class TextVerdict(Weighed):
             self._kind = "end"
 
     def _put_pairs(self) -> None:
-        if self._pairs:
-            self._put(f"{PAIRS_WITH_DAMAGE if any(it.stretch.damaged for it in self._pairs) else PAIRS}:")
-        # texts are looked up by rising place, in one walk
-        texts = {place: "" for it in self._pairs for place in it.places}
-        for place in sorted(texts):
-            texts[place] = self._text(place, "unlisted")
-        for it in self._pairs:
+        pairs, count = self._reviewed.shown.pairs, self._reviewed.shown.pair_count
+        if pairs:
+            self._put(f"{PAIRS_WITH_DAMAGE if any(it.stretch.damaged for it in pairs) else PAIRS}:")
+        for it in pairs:
             group = whose(it.group.session, it.group.sg, it.group.spri)
             self._put(f"  missing {numbers_words(it.first, it.last)} of {group}: {neighbours_words(it.stretch)}")
             for place in it.places:
-                self._put(f"    likely {place_words(self._reviewed.log, place)}{texts[place]}")
+                self._put(f"    likely {place_words(self._reviewed.log, place)}{self._text(place, 'unlisted')}")
             for damaged in it.stretch.damaged:
                 self._put(f"    likely {octets_words(self._reviewed.log, damaged, 'damaged octet')}")
-        if self._pair_count > len(self._pairs):
-            self._put_more(f"  and {grouped(self._pair_count - len(self._pairs), 'more likely pair')}")
+        if count > len(pairs):
+            self._put_more(f"  and {grouped(count - len(pairs), 'more likely pair')}")
 
     # ---- the verdict
 

@@ -1,25 +1,83 @@
 """The times that messages state: of each session the first and the last, and those of the neighbours of what is missing.
 
-They are the senders' own clocks. A report has places alone, so the log is gone over once more.
+They are the senders' own clocks. A report has places alone: the TIMESTAMP of the message at a place, `ssign inspect` reports.
 """
 from __future__ import annotations
 
+import functools
+import itertools
 from array import array
+from datetime import datetime, timedelta
 from typing import Dict, List, Optional, Sequence, Set, Tuple
 
-from .survey import Survey
 from .blocks import Session
-from .logs import Log
-from .moments import FRONT, Bounds, stamp_of
 from .pairs import Neighbour, Stretch
-from .progress import Progress
 from .report import Group
 from .stretch_visitor import StretchVisitor
+from .survey import Survey
 
-# so many octets of a message hold its TIMESTAMP
-MOST = 60
-# how often a person learns how far it is, in messages
-STEP = 1 << 12
+NIL = b"-"
+# what stands before a TIMESTAMP in an object of an inspection
+KEY = b'"timestamp":"'
+# how many octets of a TIMESTAMP state its minute, and how many its offset from UTC, where that isn't `Z`
+MINUTE, OFFSET = 16, 6
+
+
+@functools.lru_cache(maxsize=1024)
+def in_utc(minute: bytes, offset: bytes) -> bytes:
+    """The minute of UTC that is stated with this offset from it."""
+    text = offset.decode("ascii")
+    try:
+        whole = datetime.strptime(minute.decode("ascii"), "%Y-%m-%dT%H:%M")
+        ahead = timedelta(hours=int(text[1:3]), minutes=int(text[4:]))
+        whole += -ahead if text[0] == "+" else ahead
+    except (ValueError, OverflowError):
+        # the first and the last year have no time before and after them
+        return minute
+    return whole.isoformat(timespec="minutes").encode("ascii")
+
+
+def sort_key(stamp: bytes) -> bytes:
+    """What rises with the time that a TIMESTAMP states, whatever its offset from UTC and the digits of its fraction."""
+    return stamp[:-1] if stamp.endswith(b"Z") else in_utc(stamp[:MINUTE], stamp[-OFFSET:]) + stamp[MINUTE:-OFFSET]
+
+
+class Bounds:
+    """The earliest and the latest of many TIMESTAMPs. `-` states no time, and is left out."""
+
+    def __init__(self) -> None:
+        """None yet."""
+        self._first = self._last = b""
+        self._least = self._greatest = b""
+        self._seen = NIL
+
+    def take(self, stamp: bytes) -> None:
+        """Takes a TIMESTAMP."""
+        if stamp in (self._seen, NIL):
+            return
+        self._seen = stamp
+        key = sort_key(stamp)
+        if not self._first or key < self._least:
+            self._first, self._least = stamp, key
+        if not self._last or key > self._greatest:
+            self._last, self._greatest = stamp, key
+
+    def take_all(self, stamps: Sequence[bytes]) -> None:
+        """Takes TIMESTAMPs. Of those with one form, the ones between the least and the greatest text change nothing."""
+        if len(set(map(len, stamps))) == 1 and {it[-1:] for it in stamps} == {b"Z"}:
+            stamps = min(stamps), max(stamps)
+        for it in stamps:
+            self.take(it)
+
+    @property
+    def first(self) -> Optional[str]:
+        """The earliest, or None where there is none."""
+        return self._first.decode("ascii") or None
+
+    @property
+    def last(self) -> Optional[str]:
+        """The latest, or None where there is none."""
+        return self._last.decode("ascii") or None
 
 
 class Owners(StretchVisitor):
@@ -62,31 +120,36 @@ class Owners(StretchVisitor):
 class Times:
     """The TIMESTAMPs of a log, as far as a verdict shows them."""
 
-    def __init__(self, log: Log, owners: Owners, progress: Progress) -> None:
-        """Goes over the log. Raises Fault where it isn't what it was."""
-        self._bounds: Dict[Session, Bounds] = {it: Bounds() for it in owners.sessions}
-        self._at: Dict[int, Optional[str]] = {}
-        bounds = list(self._bounds.values())
-        wanted = sorted(owners.wanted, reverse=True)
-        walk = log.walk()
-        for place, front in enumerate(walk.fronts(MOST)):
-            if place >= len(owners.owners):
-                raise log.changed()
-            if wanted and wanted[-1] == place:
-                self._at[wanted.pop()] = stamp_of(front)
-            owner = owners.owners[place]
+    def __init__(self, owners: Owners) -> None:
+        """None is taken yet."""
+        self._owners = owners.owners
+        self._numbers = dict(zip(owners.sessions, itertools.count(1)))
+        self._bounds = [Bounds() for _ in range(len(owners.sessions) + 1)]
+        self._at: Dict[int, Optional[str]] = dict.fromkeys(owners.wanted)
+
+    def wanted(self) -> List[int]:
+        """The places of the messages whose TIMESTAMPs are shown, from the first."""
+        return sorted(self._at)
+
+    def take(self, place: int, stamp: Optional[str]) -> None:
+        """Takes the TIMESTAMP of the message at a place, or None where that isn't one of RFC 5424."""
+        if place in self._at:
+            self._at[place] = stamp
+
+    def take_lines(self, place: int, lines: Sequence[bytes]) -> None:
+        """Takes the objects of the messages from a place on. Most are of listed messages, so none is read in whole."""
+        stamps: Dict[int, List[bytes]] = {}
+        for owner, line in zip(self._owners[place:place + len(lines)], lines):
             if owner:
-                found = FRONT.match(front)
-                if found is not None:
-                    bounds[owner - 1].take(found[1])
-            if place % STEP == 0:
-                progress.show("reading times", walk.offset, log.size, "octets")
-        if wanted:
-            raise log.changed()
+                _, _, rest = line.partition(KEY)
+                if rest:
+                    stamps.setdefault(owner, []).append(rest[:rest.index(b'"')])
+        for owner, found in stamps.items():
+            self._bounds[owner].take_all(found)
 
     def of_session(self, session: Session) -> Tuple[Optional[str], Optional[str]]:
         """The earliest and the latest TIMESTAMP of its listed messages."""
-        bounds = self._bounds.get(session) or Bounds()
+        bounds = self._bounds[self._numbers.get(session, 0)]
         return bounds.first, bounds.last
 
     def of_neighbour(self, neighbour: Neighbour) -> Optional[str]:

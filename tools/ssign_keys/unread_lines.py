@@ -3,9 +3,7 @@ from __future__ import annotations
 
 from typing import BinaryIO, Iterator, NamedTuple
 
-from .walk import read_at
-
-PIECE = 1 << 20
+from .frames import PIECE, read_at
 
 
 class Unread(NamedTuple):

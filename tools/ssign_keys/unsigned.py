@@ -3,42 +3,36 @@ from __future__ import annotations
 
 import re
 import subprocess
-from typing import Optional
+from typing import List, Optional
 
 from .commands import PATIENCE
 from .explanations import first_sentence
+from .frames import LONGEST, PIECE, read_at
 from .logs import Log
-from .walk import LONGEST, Walk, read_at
 
 UNPARSED = re.compile(rb"unparsed 0 (M[0-9]{1,2}) ([0-9]+)\n")
-PIECE = 1 << 20
 
 
-def message_at(log: Log, place: int) -> Optional[bytes]:
-    """The message at this place of the log."""
-    walk = Walk(log.file, log.are_lines)
-    while walk.place < place:
-        if not walk.step(place - walk.place):
-            return None
-    front = walk.front(LONGEST)
-    return None if front is None else front[0]
+def said(program: str, log: Log, place: int) -> List[bytes]:
+    """The frame of the message at a place of the log, and what ssign says of it alone."""
+    words = ["extract", f"--place={place}", f"--max-len={LONGEST}", *(["--lines"] if log.are_lines else [])]
+    frame = subprocess.run([program, *words], stdin=log.rewind(), stdout=subprocess.PIPE, stderr=subprocess.DEVNULL,
+                           timeout=PATIENCE, check=False).stdout
+    return [frame, subprocess.run([program, "inspect", f"--max-len={LONGEST}"], input=frame, stdout=subprocess.PIPE,
+                                  stderr=subprocess.DEVNULL, timeout=PATIENCE, check=False).stdout]
 
 
 def part_that_fails(program: str, log: Log, place: int) -> str:
     """Which part of a message is wrong, as `ssign inspect` says: ` (M4 at its octet 5: ..)`, or nothing."""
-    message = message_at(log, place)
-    if not message:
-        return ""
     try:
-        said = subprocess.run([program, "inspect", "--max-len=1048576"], input=b"%d %s" % (len(message), message),
-                              stdout=subprocess.PIPE, stderr=subprocess.DEVNULL, timeout=PATIENCE, check=False).stdout
+        frame, line = said(program, log, place)
     except (OSError, subprocess.SubprocessError):
         return ""
-    found = UNPARSED.match(said)
+    found = UNPARSED.match(line)
     if found is None:
         return ""
     octet = int(found[2])
-    what = ", a CR" if message[octet:octet + 1] == b"\r" else ""
+    what = ", a CR" if frame.partition(b" ")[2][octet:octet + 1] == b"\r" else ""
     code = found[1].decode()
     return f" ({code} at its octet {octet}{what}: {first_sentence(program, code)})"
 

@@ -5,8 +5,10 @@ import argparse
 import contextlib
 import json
 import os
-from typing import Any, Dict, Iterator, List, NamedTuple, Optional, Sequence, Tuple
+from array import array
+from typing import AbstractSet, Any, Dict, Iterator, List, NamedTuple, Optional, Sequence, Tuple
 
+from ..block_facts import Notes
 from ..blocks import Session
 from ..chain.link import stated_in
 from ..commands import BUDGET
@@ -22,12 +24,15 @@ from ..report import Group, ReportVisitor
 from ..reviewed import Reviewed
 from ..stamped import NONE
 from ..verdict import sentence
-from ..verify import Missing, Verifier
+from ..runs import Runs
+from ..shown import Shown
+from ..survey import Survey
+from ..verifier import Missing, Verifier
 from ..workplace import Workplace, finish, put
 from .keys import Judges
 
 # the chain message has three names of files, and few octets besides
-LONGEST_LINK = 1 << 16
+LONGEST_LINK = 1 << 14
 MOST_SAID = 2000
 
 
@@ -55,10 +60,9 @@ class Judged(NamedTuple):
 class Firsts(ReportVisitor):
     """Finds in a report where the messages with the number 1 stand, whose key its one session has, or why none is trusted."""
 
-    def __init__(self, reviewed: Reviewed) -> None:
-        survey = reviewed.survey
+    def __init__(self, survey: Survey, notes: Notes) -> None:
         super().__init__(is_in_order=survey.is_in_order)
-        self._notes = reviewed.notes
+        self._notes = notes
         self._joined = survey.joined
         self.key: Optional[str] = None
         self.why = ""
@@ -91,14 +95,20 @@ def judge(judges: Judges, work: Work) -> Dict[str, Any]:
     with Workplace() as workplace:
         log = open_log([work.path], False, workplace, progress, arguments.max_expanded)
         log.longest = longest(arguments)
-        verifier = Verifier(judges.program, arguments, Missing([], None), log, None, workplace, progress, True)
+        found: List[Firsts] = []
+
+        def choose(verifier: Verifier, survey: Survey, unproved: AbstractSet[int]) -> Shown:
+            found.append(Firsts(survey, verifier.notes()))
+            verifier.read(found[-1])
+            return Shown(array("I", sorted(found[-1].places)))
+
+        verifier = Verifier(Runs(judges.program, arguments, log, workplace, progress), Missing([], None), None, choose, True)
         try:
             reviewed = verifier.review(judges.trust_at(work.seen, work.how), NONE)
         except Refused as refused:
             said = str(fault_of(refused, judges.program, arguments, log) or "it is refused")
             return {"sha256": log.sums()[0][1], "status": 2, "said": said, "session": None, "key": None, "link": None}
-        firsts = Firsts(reviewed)
-        verifier.read(firsts)
+        firsts = found[-1]
         fields = of_session(reviewed, firsts)
         log.check_unchanged()
         said = sentence(reviewed.facts)
@@ -115,7 +125,7 @@ def of_session(reviewed: Reviewed, firsts: Firsts) -> Dict[str, Any]:
     names = [it.decode("latin-1") for it in (host, app, procid)]
     texts = []
     for place in sorted(firsts.places):
-        found = reviewed.finder.find(place, LONGEST_LINK)
+        found = reviewed.inspected.find(place, LONGEST_LINK)
         texts.append(link_in(found.text, joined[0]) if found.octets == len(found.text) else None)
     links = [it for it in texts if it is not None]
     return {"session": [*names, int(rsid)], "key": firsts.key, "link": links[0] if len(links) == 1 else None}
