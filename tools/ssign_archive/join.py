@@ -36,9 +36,10 @@ def run(arguments: argparse.Namespace) -> int:
     """Writes the messages. The status is 2 where a file can't be read to its end, and 1 where one breaks off or is damaged."""
     folder = os.path.normpath(arguments.folder)
     with Workplace() as workplace:
-        reader = Reader(folder, files_of(folder), how_of(arguments), workplace)
-        if not reader.files:
+        how, files = how_of(arguments), files_of(folder)
+        if not files:
             raise Fault(f"no file lies in {shown_name(folder)}")
+        reader = Reader(folder, files, how, workplace)
         write_out(batched(reader.octets()))
     found = file_findings(os.path.basename(folder), reader.read)
     for it in found:

@@ -1,26 +1,31 @@
 """Reads the logs of a folder as one log: expanded, each from its own front on, without what is damaged, and cut after its last
-whole message."""
+whole message. Which octets are whole messages, ssign reports."""
 from __future__ import annotations
 
 import hashlib
 import itertools
 import os
 import stat
+import subprocess
+import sys
 from dataclasses import dataclass, field
-from typing import BinaryIO, Dict, Iterator, List, Optional, Tuple, cast
+from typing import BinaryIO, Iterator, List, Optional, Tuple, cast
 
-from ssign_keys.damage import Damage
 from ssign_keys.expand import FRONT, PIECE, Damaged, expanded, form_of, limited, most_expanded
 from ssign_keys.faults import Fault
 from ssign_keys.files import reason
-from ssign_keys.frames import whole_frames
-from ssign_keys.salvage import SALVAGE, Salvaged, salvaged
+from ssign_keys.frames import frame_at
+from ssign_keys.programs import Refused, Run
+from ssign_keys.progress import Progress
+from ssign_keys.salvage import SALVAGE, salvaged
 from ssign_keys.words import shown_name
 from ssign_keys.workplace import Workplace
 
-from .feeding import run_over
-from .messages import DEFAULT_LONGEST, Cutter, Whole
 from .folder import Stored, look, stored_of
+
+DEFAULT_LONGEST = 65536
+# the codes with which ssign refuses a line: one that is longer than may be, and an empty one
+LONG, EMPTY = "F2", "F9"
 
 
 @dataclass
@@ -28,7 +33,7 @@ class Read:
     """A file that was read: where its messages stand in the log of its folder, and where it couldn't be read on."""
 
     stored: Stored
-    place: int
+    place: int = 0
     messages: int = 0
     sha256: str = ""
     # the octet, of the expanded file, of the first message that wasn't read, and why; "torn" is a finding alone
@@ -61,138 +66,133 @@ class How:
 
 
 class Reader:
-    """Goes over the files of a folder, and keeps what was read of each.
+    """Goes over the files of a folder, and has what was read of each."""
 
-    A file that isn't whole frames up to its end is read again: ssign reports which of its octets are damaged.
-    """
-
-    def __init__(self, folder: str, files: List[Stored], how: How, workplace: Workplace,
-                 known: Optional[Dict[Stored, Salvaged]] = None) -> None:
-        """Of some files it may be known what can be read of them."""
-        self.folder = folder
-        self.files = files
-        self.how = how
-        self._workplace = workplace
-        self._known: Dict[Stored, Salvaged] = {} if known is None else known
-        self.read: List[Read] = []
-        self.messages = 0
-
-    def again(self) -> Reader:
-        """Goes over the same files once more."""
-        return Reader(self.folder, self.files, self.how, self._workplace, self._known)
-
-    def wholes(self) -> Iterator[Whole]:
-        """The whole messages of all files, one file after the other. Raises Fault where a file can't be read."""
-        for stored in self.files:
-            yield from self._wholes_of(stored)
-
-    def octets(self) -> Iterator[bytes]:
-        """Their octets alone."""
-        return (it.octets for it in self.wholes())
-
-    def _wholes_of(self, stored: Stored) -> Iterator[Whole]:
-        path, known = os.path.join(self.folder, stored.name), self._known.get(stored)
-        passage = Passage(path, stored, self.how, known)
-        if known is not None or self.how.are_lines:
-            yield from passage.wholes()
-        else:
-            # Before a frame that isn't whole, ssign may read the last two messages otherwise, and none before these (the law
-            # `front_is_read` of ss_salvage). So the last ones wait until others follow.
-            held: List[Whole] = []
-            given = 0
-            for whole in passage.wholes():
-                held.append(whole)
-                while sum(it.messages for it in held[1:]) > 1:
-                    given += held[0].messages
-                    yield held.pop(0)
-            if passage.is_whole:
-                yield from held
-            else:
-                known = self._known[stored] = self._salvage(path, stored)
-                passage = Passage(path, stored, self.how, known)
-                yield from passage.wholes(given)
-        passage.read.place = self.messages
-        self.messages += passage.read.messages
-        self.read.append(passage.read)
-
-    def _salvage(self, path: str, stored: Stored) -> Salvaged:
-        """What can be read of a file, as far as it can be expanded."""
-        size = 0
-        is_expanded = True
-
-        def pieces() -> Iterator[bytes]:
-            nonlocal size, is_expanded
-            with open_file(path) as file:
-                try:
-                    for it in plain_pieces(path, hashed(path, file, hashlib.sha256()), most_of(stored, self.how)):
-                        size += len(it)
-                        yield it
-                except Damaged:
-                    is_expanded = False
-
-        with self._workplace.new_file("damage") as out:
-            run_over(pieces(), self.how.program, ["inspect", "--findings", SALVAGE, *self.how.words], self._workplace, out)
-            out.seek(0)
-            found = salvaged(out)
-        if not found.is_log:
-            # so it is reported for what it is
-            return Salvaged(Damage(), 0, None)
-        last = found.damage[len(found.damage) - 1] if found.damage else None
-        if is_expanded or last is None or last.offset + last.length < size:
-            return found
-        # where the compressed octets end too early, a message may have begun that they don't have to its end
-        return found._replace(damage=Damage(list(found.damage)[:-1]))
-
-
-class Passage:
-    """Goes over one file."""
-
-    def __init__(self, path: str, stored: Stored, how: How, known: Optional[Salvaged]) -> None:
-        """It may be known what can be read of it."""
-        self._path = path
-        self._how = how
-        self._known = known
-        damage = Damage() if known is None else known.damage
-        self._cutter = Cutter(how.are_lines, how.longest, damage)
-        self.read = Read(stored, 0, damaged=[list(it) for it in damage])
+    def __init__(self, folder: str, files: List[Stored], how: How, workplace: Workplace) -> None:
+        """Has ssign look at them. Raises Fault where a file can't be read."""
+        self._sources = [Source(os.path.join(folder, it.name), it, how) for it in files]
+        messages = 0
+        for source in self._sources:
+            source.look(workplace)
+            source.read.place = messages
+            messages += source.read.messages
 
     @property
-    def is_whole(self) -> bool:
-        """Whether whole messages were read up to its end."""
-        return self.read.octet is None
+    def read(self) -> List[Read]:
+        """What was read of each file."""
+        return [it.read for it in self._sources]
 
-    def wholes(self, given: int = 0) -> Iterator[Whole]:
-        """Its whole messages, but for the first ones that were given on before. Raises Fault where it can't be read."""
-        path, read, cutter, stored = self._path, self.read, self._cutter, self.read.stored
-        hasher = hashlib.sha256()
-        if read.damaged and read.damaged[0][0] < given:
-            raise Fault(f"ssign inspect reports damage of {shown_name(path)} where frames were read")
-        with open_file(path) as file:
-            refuse_changed(path, file, stored)
+    def octets(self) -> Iterator[bytes]:
+        """The whole messages of all files, one file after the other. Raises Fault where one isn't what it was."""
+        return itertools.chain.from_iterable(it.whole() for it in self._sources)
+
+
+class Source:
+    """Goes over one file."""
+
+    def __init__(self, path: str, stored: Stored, how: How) -> None:
+        """Nothing is known of it yet."""
+        self._path = path
+        self._how = how
+        self.read = Read(stored)
+        self._size = 0
+        self._front = b""
+        # what is wrong with the compressed octets, where they end too early or are damaged
+        self._broken = ""
+
+    def look(self, workplace: Workplace) -> None:
+        """Learns what ssign can read of it. How many messages there may be in all, isn't asked of one file."""
+        words = ["inspect", "--findings", *([] if self._how.are_lines else [SALVAGE])]
+        words += [it for it in self._how.words if not it.startswith("--max-messages=")]
+        refused: Optional[Refused] = None
+        with workplace.new_file("looked") as out:
             try:
-                for octets in gathered(plain_pieces(path, hashed(path, file, hasher), most_of(stored, self._how))):
-                    whole = cutter.take(octets)
-                    before, read.messages = read.messages, read.messages + whole.messages
-                    if given <= before:
-                        yield whole
-                    elif given < read.messages:
-                        end, _ = whole_frames(whole.octets, 0, given - before, self._how.longest)
-                        yield Whole(whole.octets[end:], read.messages - given)
-                    # what follows a compressed file's last whole message is damaged by what it is compressed by
-                    if cutter.fault and not (self._known and self._known.messages):
-                        break
-                if cutter.fault or cutter.is_torn:
-                    read.octet, read.why = cutter.offset, cutter.fault or "torn"
-            except Damaged as fault:
-                read.octet, read.why = cutter.offset, fault.cause
-            for _ in hashed(path, file, hasher):
+                run_over(self._all(), self._how.program, words, workplace, out)
+            except Refused as it:
+                refused = it
+            # whoever refuses a line doesn't read on
+            for _ in self._all() if refused else ():
                 pass
+            out.seek(0)
+            self._take(out, refused)
+
+    def _take(self, said: BinaryIO, refused: Optional[Refused]) -> None:
+        """Keeps what ssign says of the file."""
+        read, where = self.read, 0 if refused is None else refused.where or 0
+        if refused is not None and self._how.are_lines and refused.code in (LONG, EMPTY):
+            is_empty = refused.code == EMPTY
+            read.octet = where if is_empty else where - self._how.longest
+            read.why = "an empty line stands there" if is_empty else f"a line of more than {self._how.longest} octets begins there"
+            read.messages = sum(it.count(b"\n") for it in self.whole())
+            return
+        if refused is not None:
+            raise fault_of(refused)
+        found = salvaged(said)
+        if not found.is_log:
+            length = frame_at(self._front, 0)[1]
+            read.octet = 0
+            is_long = length > self._how.longest
+            read.why = f"a frame of more than {self._how.longest} octets begins there" if is_long else "no frame begins there"
+            return
+        damaged = [list(it) for it in found.damage]
+        read.messages, read.octet, read.why = found.messages, found.torn, "" if found.torn is None else "torn"
+        if self._broken:
+            # where the compressed octets end too early, a message may have begun that they don't have to its end
+            is_last = bool(damaged) and sum(damaged[-1][1:]) == self._size
+            last = damaged.pop()[1] if is_last else self._size if found.torn is None else found.torn
+            read.octet, read.why = last, self._broken
+        read.damaged = damaged
+
+    def _all(self) -> Iterator[bytes]:
+        """Its octets, as far as they can be expanded. Raises Fault where it isn't what it was."""
+        read, hasher = self.read, hashlib.sha256()
+        self._size, self._front, self._broken = 0, b"", ""
+        with open_file(self._path) as file:
+            refuse_changed(self._path, file, read.stored)
+            try:
+                for it in plain_pieces(self._path, hashed(self._path, file, hasher), most_of(read.stored, self._how)):
+                    self._size += len(it)
+                    self._front = self._front or it[:FRONT]
+                    yield it
+            except Damaged as fault:
+                self._broken = fault.cause
+            for _ in hashed(self._path, file, hasher):
+                pass
+            refuse_changed(self._path, file, read.stored)
+            if look(self._path) != read.stored or read.sha256 not in ("", hasher.hexdigest()):
+                raise changed(self._path)
             read.sha256 = hasher.hexdigest()
-            refuse_changed(path, file, stored)
-            if look(path) != stored:
-                raise changed(path)
-        if self._known is not None and self._known.messages and self._known.messages != read.messages:
-            raise Fault(f"ssign inspect reports other messages of {shown_name(path)} than it has")
+
+    def whole(self) -> Iterator[bytes]:
+        """Its whole messages, in pieces."""
+        at, gaps = 0, iter([*self.read.damaged, [0, sys.maxsize if self.read.octet is None else self.read.octet, sys.maxsize]])
+        _, start, length = next(gaps)
+        for piece in self._all():
+            kept = []
+            begin, end = at, at + len(piece)
+            while begin < end:
+                if begin < start:
+                    kept.append(piece[begin - at:start - at])
+                    begin = min(end, start)
+                elif begin < start + length:
+                    begin = min(end, start + length)
+                else:
+                    _, start, length = next(gaps)
+            at = end
+            yield b"".join(kept)
+
+
+def run_over(pieces: Iterator[bytes], program: str, words: List[str], workplace: Workplace, out: BinaryIO) -> int:
+    """Hands octets to ssign, and gives its status, 0 or 1. Raises Refused where it refuses them."""
+    run = Run(program, words, workplace, Progress(), subprocess.PIPE, out)
+    run.feed(pieces)
+    return run.end(lambda: None)
+
+
+def fault_of(refused: Refused) -> Fault:
+    """What is said of a refusal."""
+    where = "" if refused.where is None else f" {refused.where}"
+    return Fault(f"ssign inspect refuses it: {refused.mistake or f'ssign: {refused.code}{where}'}")
 
 
 def most_of(stored: Stored, how: How) -> int:
@@ -250,21 +250,3 @@ def plain_pieces(path: str, pieces: Iterator[bytes], most: int) -> Iterator[byte
         raise Fault(f"{shown_name(path)} is compressed by zstd, and only gzip and xz are expanded here")
     everything = itertools.chain([front], pieces)
     return limited(path, form, expanded(path, form, everything), most) if form else everything
-
-
-def gathered(pieces: Iterator[bytes]) -> Iterator[bytes]:
-    """The same octets in pieces that aren't short, because each piece is put after what the one before left over."""
-    held: List[bytes] = []
-    size = 0
-    try:
-        for piece in pieces:
-            held.append(piece)
-            size += len(piece)
-            if size >= PIECE:
-                yield b"".join(held)
-                held, size = [], 0
-    except Damaged:
-        # what stands before the damage is read
-        yield b"".join(held)
-        raise
-    yield b"".join(held)

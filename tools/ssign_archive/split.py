@@ -15,19 +15,18 @@ from typing import BinaryIO, Dict, Iterator, List, NamedTuple, Set, Tuple
 from ssign_keys import expand as expand_options
 from ssign_keys.faults import Fault
 from ssign_keys.files import reason
+from ssign_keys.frames import frame_at
 from ssign_keys.output import print_text
-from ssign_keys.programs import add_log_arguments, add_program_argument
+from ssign_keys.programs import Refused, add_log_arguments, add_program_argument
 from ssign_keys.words import counted, shown_name
 from ssign_keys.workplace import Workplace, notify
 
 from .announced import Announced
-from .feeding import run_over
 from .findings import Places, file_findings
-from .join import how_of
-from .messages import each_message
-from .parts import Parts, name_of
-from .sources import Read, Reader
 from .folder import files_of, look
+from .join import how_of
+from .parts import Parts, name_of
+from .sources import Reader, fault_of, run_over
 
 # RFC 5424, section 6.2: HOSTNAME is the third word
 HOST = 2
@@ -106,24 +105,25 @@ class Split:
         self._parts = parts
         self._announced = Announced()
         self._misplaced = Misplaced()
-        self._read: List[Read] = []
         # the parts of the names that were met, because to spell the name of a folder for each message takes long
         self._known: Dict[Tuple[bytes, ...], int] = {}
 
     def run(self, workplace: Workplace) -> None:
         """Asks ssign what each message is, learns which hashes are announced, and writes the parts."""
         with workplace.new_file("inspection") as inspection:
-            reader = self._reader(workplace)
-            run_over(reader.octets(), self._how.program, ["inspect", *self._how.words], workplace, inspection)
-            self._read = reader.read
-            for message in self._messages(inspection, reader.again()):
+            reader = self._reader = self._reader_of(workplace)
+            try:
+                run_over(reader.octets(), self._how.program, ["inspect", *self._how.words], workplace, inspection)
+            except Refused as refused:
+                raise fault_of(refused) from refused
+            for message in self._messages(inspection):
                 if message.words[0] == b"signature":
                     self._announced.add(message.text, self._block_part(message))
-            for message in self._messages(inspection, reader.again()):
+            for message in self._messages(inspection):
                 self._put(message)
         self._parts.write()
 
-    def _reader(self, workplace: Workplace) -> Reader:
+    def _reader_of(self, workplace: Workplace) -> Reader:
         if os.path.isdir(self._log):
             folder, files = self._log, files_of(self._log)
         else:
@@ -132,20 +132,18 @@ class Split:
             raise Fault(f"no file lies in {shown_name(folder)}")
         return Reader(folder, files, self._how, workplace)
 
-    def _messages(self, inspection: BinaryIO, reader: Reader) -> Iterator[Message]:
+    def _messages(self, inspection: BinaryIO) -> Iterator[Message]:
         """The messages of the log, each with what ssign calls it."""
         inspection.seek(0)
         place = 0
-        for whole in reader.wholes():
-            for begin, text, end in each_message(whole.octets, self._how.are_lines):
-                words = inspection.readline().split()
-                if words[1:2] != [b"%d" % place] or words[0] == b"torn":
-                    raise Fault("ssign inspect says something of other messages than were handed to it")
-                stored = whole.octets[begin : end + self._how.are_lines]
-                yield Message(place, words, whole.octets[text:end], stored)
-                place += 1
-        if inspection.readline() != b"end %d\n" % place or reader.read != self._read:
-            raise Fault(f"{shown_name(self._log)} was changed while it was read")
+        for text, stored in each_message(self._reader.octets(), self._how.are_lines):
+            words = inspection.readline().split()
+            if words[1:2] != [b"%d" % place] or words[0] == b"torn":
+                raise Fault("ssign inspect says something of other messages than were handed to it")
+            yield Message(place, words, text, stored)
+            place += 1
+        if inspection.readline() != b"end %d\n" % place:
+            raise Fault("ssign inspect says something of other messages than were handed to it")
 
     def _block_part(self, message: Message) -> int:
         """The part of a block, by its session."""
@@ -179,10 +177,10 @@ class Split:
     def tell(self) -> int:
         """Prints the parts and the premises, and gives the status."""
         print_text("".join(f"{line}\n" for line in self._lines()))
-        found = file_findings(".", self._read)
+        found = file_findings(".", self._reader.read)
         for it in found:
             notify(f"ssign-archive: {it}")
-        if any(it.octet is not None and it.why != "torn" for it in self._read):
+        if any(it.octet is not None and it.why != "torn" for it in self._reader.read):
             return 2
         return 1 if self._misplaced.count or found else 0
 
@@ -203,4 +201,19 @@ class Split:
 
     def _where(self, place: int) -> str:
         """A place of the log, with its file."""
-        return f"place {place} ({Places('.', self._read).at(place)})"
+        return f"place {place} ({Places('.', self._reader.read).at(place)})"
+
+
+def each_message(pieces: Iterator[bytes], are_lines: bool) -> Iterator[Tuple[bytes, bytes]]:
+    """Each of some whole messages, which ssign read before: its text, and its octets as they are stored."""
+    left = b""
+    for piece in pieces:
+        chunk, at = left + piece, 0
+        while True:
+            text, length = (at, chunk.find(b"\n", at) - at) if are_lines else frame_at(chunk, at)
+            end = text + length + are_lines
+            if length <= 0 or end > len(chunk):
+                break
+            yield chunk[text:text + length], chunk[at:end]
+            at = end
+        left = chunk[at:]
