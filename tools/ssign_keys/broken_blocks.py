@@ -6,13 +6,16 @@ What a number lists was sent so, and isn't grouped at all.
 from __future__ import annotations
 
 import base64
+import json
 from dataclasses import dataclass
-from typing import NamedTuple, Optional
+from typing import NamedTuple, Optional, Sequence
 
 from .inspected import Object
 from .words import grouped
 
 LINE_ENDS = b"\r\n"
+# stands in the objects of messages that hold the mark
+MARKED = b'"marked":1'
 # the part that fails where something stands after the elements, and so many octets that may be the end of a line
 SYNTAX, LAST = "M8", 4
 
@@ -41,9 +44,7 @@ class Broken:
     first_ordinary: Optional[int] = None
 
     def take(self, it: Object) -> None:
-        """Takes the object of an unlisted message."""
-        if "marked" not in it:
-            return
+        """Takes the object of one of them."""
         if it["line"] == "plain":
             self.ordinary += 1
             self.first_ordinary = it["place"] if self.first_ordinary is None else self.first_ordinary
@@ -76,6 +77,24 @@ class Broken:
         said = grouped(self.ordinary, "unlisted message holds \"[ssign\" elsewhere than a block does: it stands at",
                        "unlisted messages hold \"[ssign\" elsewhere than a block does: the first at")
         return f" {said} place {self.first_ordinary}."
+
+
+class Marks:
+    """Finds them among the unlisted messages."""
+
+    def __init__(self, unlisted: Sequence[int], broken: Broken) -> None:
+        """The places rise. What is found is added to the broken ones."""
+        self._unlisted = unlisted
+        self._broken = broken
+        self._at = 0
+
+    def take_lines(self, place: int, lines: Sequence[bytes]) -> None:
+        """Takes the objects of the messages from a place on."""
+        while self._at < len(self._unlisted) and self._unlisted[self._at] < place + len(lines):
+            line = lines[self._unlisted[self._at] - place]
+            if MARKED in line:
+                self._broken.take(json.loads(line))
+            self._at += 1
 
 
 def is_line_end(it: Object) -> bool:

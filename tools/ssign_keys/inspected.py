@@ -10,14 +10,11 @@ import heapq
 import itertools
 import json
 from array import array
-from typing import TYPE_CHECKING, Any, BinaryIO, Callable, Dict, Iterable, List, NamedTuple, Optional, Sequence, Tuple
+from typing import Any, BinaryIO, Callable, Dict, Iterable, List, NamedTuple, Optional, Protocol, Sequence, Tuple
 
 from .logs import Log
 from .report import stretches, wrong
 from .words import ROOM, shown_front
-
-if TYPE_CHECKING:
-    from .times import Times
 
 # how many characters of a message are shown: of a block its front, and of an unlisted message so many that a change at its
 # end is seen. Each receiver should take messages of 2048 octets (RFC 5424, section 6.1)
@@ -28,7 +25,7 @@ MOST_TEXT = 16384
 OCTETS = b'"octets":'
 
 Object = Dict[str, Any]
-Take = Callable[[int, Object], None]
+Take = Callable[[int, bytes], None]
 
 
 def most_shown(kind: str) -> int:
@@ -62,6 +59,13 @@ class Found(NamedTuple):
         return text, octets < self.octets
 
 
+class Taker(Protocol):
+    """Whoever is handed each object, and reads few of them in whole."""
+
+    def take_lines(self, place: int, lines: Sequence[bytes]) -> None:
+        """Takes the objects of the messages from a place on."""
+
+
 class Inspected:
     """The objects of the messages at some places."""
 
@@ -73,19 +77,17 @@ class Inspected:
         # where the objects of these places begin in the file
         self._offsets = array("Q")
 
-    def read(self, messages: int, take: Take, times: Optional[Times], lengths: Optional["Lengths"]) -> None:
-        """Goes over the objects of so many messages. Hands on those of the places, and where they are wanted all lines."""
+    def read(self, messages: int, take: Take, takers: Sequence[Taker]) -> None:
+        """Goes over the objects of so many messages. Hands on those of the places, and all lines to these takers."""
         place = offset = 0
         for chunk in stretches(self._objects):
             end = min(place + chunk.count(b"\n"), messages)
             at = len(self._offsets)
-            if times or lengths or at < len(self._places) and self._places[at] < end:
+            if takers or at < len(self._places) and self._places[at] < end:
                 lines = chunk.split(b"\n")[:end - place]
                 self._take_wanted(place, offset, lines, take)
-                if times is not None:
-                    times.take_lines(place, lines)
-                if lengths is not None:
-                    lengths.take_lines(lines)
+                for it in takers:
+                    it.take_lines(place, lines)
             place, offset = end, offset + len(chunk)
         if place < messages or len(self._offsets) < len(self._places):
             raise wrong("ssign inspect doesn't report each message")
@@ -99,7 +101,7 @@ class Inspected:
             offset += sum(map(len, lines[before:at])) + at - before
             before = at
             self._offsets.append(offset)
-            take(wanted, object_at(wanted, lines[at]))
+            take(wanted, lines[at])
 
     def find(self, place: int, most: int) -> Found:
         """The message at one of the places, with so many octets of its text."""
@@ -155,7 +157,7 @@ class Lengths:
         self._place = self._at = 0
         self._places: List[int] = []
 
-    def take_lines(self, lines: Sequence[bytes]) -> None:
+    def take_lines(self, place: int, lines: Sequence[bytes]) -> None:
         """Takes the objects of the next messages."""
         for line in lines:
             self._begin()

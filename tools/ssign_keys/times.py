@@ -131,10 +131,13 @@ class Times:
         """The places of the messages whose TIMESTAMPs are shown, from the first."""
         return sorted(self._at)
 
+    def wants(self, place: int) -> bool:
+        """Whether the TIMESTAMP of the message at a place is shown."""
+        return place in self._at
+
     def take(self, place: int, stamp: Optional[str]) -> None:
-        """Takes the TIMESTAMP of the message at a place, or None where that isn't one of RFC 5424."""
-        if place in self._at:
-            self._at[place] = stamp
+        """Takes the TIMESTAMP of such a message, or None where that isn't one of RFC 5424."""
+        self._at[place] = stamp
 
     def take_lines(self, place: int, lines: Sequence[bytes]) -> None:
         """Takes the objects of the messages from a place on. Most are of listed messages, so none is read in whole."""

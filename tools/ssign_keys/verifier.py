@@ -12,10 +12,10 @@ from .answer import answers
 from .asked import session_of as session_in
 from .asking import Asking
 from .block_facts import Notes, noted
-from .broken_blocks import Broken
+from .broken_blocks import Broken, Marks
 from .claims import Claims, Stored, Unproved, is_among
 from .digests import Digest
-from .inspected import Inspected, Lengths, Object, merged
+from .inspected import Inspected, Lengths, Taker, merged, object_at
 from .kept import Counters
 from .output import file_pieces
 from .pinned import CERTIFICATE, INSPECT, SIGNATURE, Known, Search
@@ -47,8 +47,6 @@ ONCE = "--once"
 TALLY = "--tally"
 # so many octets of answers are supposed besides four times those of the log
 ROOM = 1 << 24
-# the words of blocks in an inspection
-BLOCKS = ("signature", "certificate")
 
 # names the messages of which texts are shown, where some unlisted ones are unproved
 Choose = Callable[["Verifier", Survey, AbstractSet[int]], Shown]
@@ -255,31 +253,31 @@ class Verifier:
         """Has ssign inspect the log, where anything is to be learned of its messages: the texts and times that are shown, what
         unverified blocks claim, and which unlisted messages hold the mark of a block."""
         log, claims, broken = self._log, Claims(), Broken()
+        unlisted = array("I") if self._is_bare else survey.unlisted
+        refused = array("I") if self._is_bare or not survey.joined else survey.refused
+        takers: List[Taker] = [Marks(unlisted, broken)] if unlisted else []
         if self._owners is not None:
             from .times import Times
             self.times = Times(self._owners)
-        times = self.times
-        unlisted = array("I") if self._is_bare else survey.unlisted
-        refused = array("I") if self._is_bare or not survey.joined else survey.refused
-        texts = merged(unlisted, shown.places)
-        places = merged(texts, refused, [] if times is None else times.wanted())
-        if not places and times is None:
+            takers.append(self.times)
+        times, texts = self.times, merged(unlisted, shown.places)
+        places = merged(shown.places, refused, [] if times is None else times.wanted())
+        if not places and not takers:
             return Inspected(log, self._report, places), claims, broken
         path = self._runs.places_file("text-places", texts)
 
-        def take(place: int, it: Object) -> None:
-            if it["line"] in BLOCKS:
-                if session_in(it) in survey.joined and is_among(refused, place):
+        def take(place: int, line: bytes) -> None:
+            if is_among(refused, place):
+                it = object_at(place, line)
+                if session_in(it) in survey.joined:
                     claims.take(it)
-            elif is_among(unlisted, place):
-                broken.take(it)
-            if times is not None:
-                times.take(place, it.get("timestamp"))
+            elif times is not None and times.wants(place):
+                times.take(place, object_at(place, line).get("timestamp"))
 
         inspected = Inspected(log, self._runs.output("inspected", ["inspect", "--json", f"--facts={path}"]), places)
-        lengths = Lengths(log) if len(log.parts) > 1 else None
-        inspected.read(survey.totals.messages, take, times, lengths)
-        if lengths is not None:
+        lengths = Lengths(log)
+        inspected.read(survey.totals.messages, take, [*takers, lengths] if len(log.parts) > 1 else takers)
+        if len(log.parts) > 1:
             log.place_parts(lengths.places())
         return inspected, claims, broken
 
