@@ -10,6 +10,7 @@ from __future__ import annotations
 
 import gzip
 import hashlib
+import io
 import json
 import mmap
 import os
@@ -19,8 +20,12 @@ import sys
 import tempfile
 import time
 from concurrent.futures import ThreadPoolExecutor
-from typing import BinaryIO, Callable, Dict, List, NamedTuple, Optional, Sequence
+from typing import BinaryIO, Callable, Dict, Iterator, List, NamedTuple, Optional, Sequence, Tuple
 
+sys.path.insert(0, os.path.join(os.path.dirname(os.path.abspath(__file__)), "..", "tools"))
+from ssign_keys.faults import Fault
+from ssign_keys.progress import Progress
+from ssign_keys.report import Group, Reading, ReportVisitor
 
 # a run that takes more seconds hangs
 PATIENCE = 100
@@ -29,8 +34,15 @@ WRONG = "ssign-keys: the report of ssign review is wrong, so there is no verdict
 UNREAD, EARLY, ENDLESS = "ssign didn't read %s to the end", "ssign asks or waits for answers too early", "its questions have no end"
 CHANGED = "the log mapped was changed while it was read: run again, or hand over a copy"
 PAYLOAD, END = b'{"line":"payload","payload_index":0,"payload":"S0VZ"}\n', b'{"line":"end"}\n'
+# the options that questions don't have
+OF_REVIEWS = "--in-order", "--some-listed", "--no-sha1", "--brief"
 NO_QUESTION = "ssign-keys: line %d is no object `payload`, `trust?` or `yes?` of ssign review --ask --json"
 passed = failed = 0
+
+
+def word_of(line: bytes) -> bytes:
+    """The word of an object."""
+    return line.split(b'"')[3]
 
 
 def tell(what: str, is_so: bool, fault: object = "") -> None:
@@ -59,7 +71,7 @@ class StandIn:
 
     def _ssign(self, *words: str) -> bytes:
         with open("log", "rb") as log:
-            shared = [it for it in self._shared if words[0] == "review" or it not in ("--in-order", "--tally")]
+            shared = [it for it in self._shared if words[0] == "review" or it not in OF_REVIEWS]
             return subprocess.run([self._program, *words, *shared], stdin=log, stdout=subprocess.PIPE, check=False).stdout
 
     def ask(self, change: Callable[[bytes], bytes] = lambda it: it) -> None:
@@ -71,23 +83,23 @@ class StandIn:
         """Opens the answers."""
         return open(self._given, "rb")
 
-    def report(self, answers: bytes) -> None:
-        """Writes a report under answers."""
+    def report(self, answers: bytes, change: Callable[[bytes], bytes] = lambda it: it) -> None:
+        """Writes a report under answers, as it is changed."""
         with tempfile.NamedTemporaryFile(dir=".") as file:
             file.write(answers)
             file.flush()
-            os.write(1, self._ssign("review", f"--answers={file.name}"))
+            os.write(1, change(self._ssign("review", f"--answers={file.name}")))
 
     def run(self, broken: str) -> int:
         """Does what ssign does, but for what is broken."""
         return int(getattr(self, "do_" + broken)() or 0)
 
-    def whole(self, change: Callable[[bytes], bytes] = lambda it: it) -> None:
+    def whole(self, change: Callable[[bytes], bytes] = lambda it: it, of_report: Callable[[bytes], bytes] = lambda it: it) -> None:
         """All in its order."""
         self.read_log()
         self.ask(change)
         with self.answers() as file:
-            self.report(file.read())
+            self.report(file.read(), of_report)
 
     def do_nothing_broken(self) -> None:
         """Shows that what breaks is what is broken here."""
@@ -191,6 +203,17 @@ class StandIn:
         self.ask()
         with self.answers() as file:
             self.report(file.read(100000).rpartition(b"\n")[0] + b"\n")
+
+    def _without(self, *words: bytes) -> None:
+        self.whole(of_report=lambda it: b"".join(line for line in it.splitlines(True) if word_of(line) not in words))
+
+    def do_no_tally(self) -> None:
+        """Loses the only group: the rest is the report of a log without a message."""
+        self._without(b"ok", b"tally")
+
+    def do_no_last_line(self) -> None:
+        """Loses the line `end`."""
+        self._without(b"end")
 
     def do_no_report(self) -> None:
         """Ends well, and reports nothing."""
@@ -330,7 +353,8 @@ BROKEN = {
     "early_questions": WRONG + EARLY, "early_answers": WRONG + EARLY, "early_answers_in_between": WRONG + EARLY,
     "no_answers": WRONG + UNREAD % "the answers", "unread_answers": WRONG + UNREAD % "the answers",
     "few_answers": WRONG + UNREAD % "the answers", "no_answers_and_no_end": WRONG + "ssign doesn't read the answers",
-    "no_report": WRONG + "it has no end",
+    "no_report": WRONG + "it has no end", "no_last_line": WRONG + "it has no end",
+    "no_tally": WRONG + "its status isn't that of its lines",
     "another_status": "ssign-keys: ssign review ended with the status 77, which ssign never gives",
     "status_after_the_questions": "ssign-keys: ssign review ended with the status 77, which ssign never gives",
     "death": "ssign-keys: ssign review was ended by the signal SIGKILL, as where memory runs out",
@@ -374,20 +398,117 @@ def check_counts(bench: Bench) -> None:
 
 
 def check_counts_of_findings(bench: Bench) -> None:
-    """How often ssign is run over a log with a changed message: once to count, once more for each line, and once for texts."""
+    """How often ssign is run over a log with a changed message: once to review, once for texts, and once more for a raw report."""
     with open("log", "rb") as file:
         log = bytearray(file.read())
     log[log.index(b"message 77 ")] ^= 1
     with open("log.found", "wb") as file:
         file.write(log)
     handed = [len(log), hashlib.sha256(log).hexdigest()]
-    for what, words, wanted in (("plain", [], ["review", "review", "inspect"]), ("--json", ["--json"], ["review", "inspect"]),
+    for what, words, wanted in (("plain", [], ["review", "inspect"]), ("--json", ["--json"], ["review", "inspect"]),
                                 ("--raw", ["--raw"], ["review", "review"])):
         called = f"found.{what}"
         done = finished(bench.start(called, {}, *words, "log.found"), called)
         runs = [json.loads(it) for it in done.called]
         tell(f"{what}, a changed message: the status", done.status == 1 and bool(done.out), done)
         tell(f"{what}, a changed message: how often ssign is run", runs == [[it, *handed] for it in wanted], runs)
+
+
+class Groups(ReportVisitor):
+    """Keeps the groups of a report, and the neighbours of each number that isn't listed."""
+
+    def __init__(self) -> None:
+        super().__init__(is_in_order=True)
+        self.found: List[Tuple[int, ...]] = []
+        self.neighbours: List[Tuple[int, int, int]] = []
+        self._last, self._waits = (0, 0), False
+
+    def begin_group(self, group: Group) -> None:
+        """No neighbour yet."""
+        self._last, self._waits = (0, 0), False
+
+    def listed(self, group: Group, numbers: Sequence[int], places: Sequence[int]) -> None:
+        """The neighbour after a run."""
+        if self._waits:
+            self.neighbours.append((1, numbers[0], places[0]))
+        self._last, self._waits = (numbers[-1], places[-1]), False
+
+    def gap(self, group: Group, number: int, why: str) -> None:
+        """The neighbour before a run."""
+        self.neighbours.append((number, *self._last))
+        self._waits = True
+
+    def hole(self, group: Group, first: int, last: int) -> None:
+        """The same."""
+        self.gap(group, first, "hole")
+
+    def end_group(self, group: Group) -> None:
+        """All that is counted."""
+        self.found.append((group.sg, group.spri, group.first, group.last, group.announced, group.listed, group.lost, group.disputed,
+                           group.unannounced, group.out_of_order, group.first_out_of_order))
+
+
+def read(report: bytes, is_brief: bool) -> Groups:
+    """What is read of a report."""
+    groups = Groups()
+    Reading(groups, is_brief=is_brief).read(io.BytesIO(report), Progress())
+    return groups
+
+
+def is_refused(report: bytes) -> bool:
+    """Whether a report in brief is refused."""
+    try:
+        read(report, True)
+    except Fault:
+        return True
+    return False
+
+
+def frames(octets: bytes) -> Iterator[bytes]:
+    """The frames of a log."""
+    while octets:
+        digits = octets[:octets.index(b" ") + 1]
+        frame = octets[:len(digits) + int(digits)]
+        octets = octets[len(frame):]
+        yield frame
+
+
+def check_brief(tool: str, program: str) -> None:
+    """A report in brief is read as the whole one is, and none that lost a line about a number."""
+    with open("log", "rb") as file:
+        stored = list(frames(file.read()))
+    signatures = [at for at, it in enumerate(stored) if b"[ssign VER=" in it]
+    for what, lost in (("nothing", []), ("a message", [50]), ("messages and a block", [4, 5, 9, 11, 300, signatures[3]]),
+                       ("the front", list(range(5, 130))), ("the last messages and blocks", list(range(len(stored) - 250, len(stored)))),
+                       ("every third", list(range(3, 600, 3)) + signatures[2:40:9])):
+        gone = set(lost)
+        with open("log.lost", "wb") as file:
+            file.write(b"".join(it for at, it in enumerate(stored) if at not in gone))
+        if os.path.exists("answers.lost"):
+            os.remove("answers.lost")
+        subprocess.run([tool, "verify", *KEY, "--ssign", program, "--raw", "--answers-out", "answers.lost", "log.lost"], check=False,
+                       stdout=subprocess.DEVNULL, stderr=subprocess.DEVNULL)
+        whole, brief = (review(program, more) for more in ([], ["--brief"]))
+        one, other = read(whole, False), read(brief, True)
+        tell(f"{what} lost: counts in brief", one.found == other.found != [], (one.found, other.found))
+        tell(f"{what} lost: neighbours in brief", one.neighbours == other.neighbours, (one.neighbours[:9], other.neighbours[:9]))
+        lines = brief.splitlines(True)
+        needed = [at for at in range(1, len(lines)) if is_needed([word_of(it) for it in lines[at - 1:at + 2]])]
+        taken = [lines[at] for at in needed[:100] + needed[-3:] if not is_refused(b"".join(lines[:at] + lines[at + 1:]))]
+        tell(f"{what} lost: a report in brief that lost a line", not taken and (len(needed) > 2) == bool(one.neighbours), taken)
+
+
+def is_needed(words: Sequence[bytes]) -> bool:
+    """Whether the middle one of three lines is missed where it is lost: not a listed one that is beside others of its kind alone."""
+    others = (b"gap", b"hole")
+    return words[1] in (*others, b"end") or words[1] in (b"ok", b"tally") and (words[0] in others or words[2:] != [] and words[2] in others)
+
+
+def review(program: str, more: Sequence[str]) -> bytes:
+    """The report on the log that lost something."""
+    with open("log.lost", "rb") as log:
+        words = [program, "review", "--json", "--in-order", "--answers=answers.lost", *more]
+        return subprocess.run(words, stdin=log, stdout=subprocess.PIPE, check=False).stdout
 
 
 def check_changed(bench: Bench) -> None:
@@ -418,6 +539,7 @@ def main(tool: str, program: str) -> None:
     bench = Bench(tool, program)
     check_counts(bench)
     check_counts_of_findings(bench)
+    check_brief(tool, program)
     check_changed(bench)
     check_broken(bench)
     print(f"asking: {passed} passed, {failed} failed")

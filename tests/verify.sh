@@ -519,8 +519,8 @@ printf '#!/bin/sh\necho "$*" >>called\nexec %q "$@"\n' "$program" >recording
 chmod +x recording
 keys verify --key keys/public-key.pem --whole --max-len 9999 --ssign ./recording stored
 holds 'the words of ssign' cmp <(sed 's|=/[^ ]*/|=|g' called) \
-    <(printf '%s\n' --version 'review --ask=asked --answers=given --json --whole --in-order --max-len=9999 --salvage --tally' \
-        'review --answers=answers --whole --in-order --max-len=9999 --salvage')
+    <(printf '%s\n' --version \
+        'review --ask=asked --answers=given --json --whole --some-listed --in-order --no-sha1 --brief --max-len=9999 --salvage')
 printf '#!/bin/sh\nexit 2\n' >silent
 chmod +x silent
 for form in '' --json --raw; do
@@ -798,7 +798,8 @@ rm called
 keys verify --key keys/public-key.pem --counters counters.1 --max-len 9999 --ssign ./recording signed
 says 'the words of ssign with --counters: the verdict' 0 "$all_there Nothing is missing up to the counters."
 holds 'the words of ssign with --counters' cmp <(sed 's|=/[^ ]*/|=|g' called) \
-    <(printf '%s\n' --version 'review --counters=counters' 'review --ask=asked --answers=given --json --counters=counters --in-order --max-len=9999 --salvage --tally')
+    <(printf '%s\n' --version 'review --counters=counters' \
+        'review --ask=asked --answers=given --json --counters=counters --some-listed --in-order --no-sha1 --brief --max-len=9999 --salvage')
 
 # ---- what no block signed, and hostile texts
 for it in logger rsyslog syslog-ng; do

@@ -16,7 +16,7 @@ from .commands import PATIENCE
 from .faults import Fault
 from .programs import Run
 from .progress import Progress
-from .report import wrong
+from .report_lines import wrong
 from .workplace import Workplace
 
 PIECE = 1 << 16

@@ -13,7 +13,7 @@ from array import array
 from typing import Any, BinaryIO, Callable, Dict, Iterable, List, NamedTuple, Optional, Protocol, Sequence, Tuple
 
 from .logs import Log
-from .report import stretches, wrong
+from .report_lines import stretches, wrong
 from .words import ROOM, shown_front
 
 # how many characters of a message are shown: of a block its front, and of an unlisted message so many that a change at its

@@ -2,7 +2,7 @@
 from __future__ import annotations
 
 import argparse
-from typing import BinaryIO, Dict, List, Optional, Sequence, Tuple
+from typing import BinaryIO, Dict, List, Optional, Tuple
 
 from .blocks import Session
 from .digests import Digest
@@ -29,28 +29,15 @@ class Extents(ReportVisitor):
         """Nothing is read yet."""
         super().__init__()
         self.reviewed = Reviewed({}, {}, {})
-        self._first = 0
 
     def session(self, session: Session, state: str) -> None:
         """Keeps its state."""
         self.reviewed.states[session] = state
 
-    def begin_group(self, group: Group) -> None:
-        """Its numbers aren't known yet."""
-        self._first = 0
-
-    def listed(self, group: Group, numbers: Sequence[int], places: Sequence[int]) -> None:
-        """The group counts them."""
-        self._first = self._first or numbers[0]
-
-    def gap(self, group: Group, number: int, why: str) -> None:
-        """The group counts it."""
-        self._first = self._first or number
-
     def end_group(self, group: Group) -> None:
         """Keeps its numbers."""
         self.reviewed.groups.setdefault(group.session, []).append(Extent(group.sg, group.spri, group.first, group.last))
-        self.reviewed.announced.setdefault(group.session, []).append(Extent(group.sg, group.spri, self._first, group.last))
+        self.reviewed.announced.setdefault(group.session, []).append(Extent(group.sg, group.spri, group.announced, group.last))
 
 
 class Listed:

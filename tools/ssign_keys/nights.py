@@ -32,7 +32,7 @@ from .stamped import check_stamps, refuse_lone
 from .summaries import FEW, Runs
 from .text_verdict import LONG
 from .trust import read_public_keys
-from .verdict import unbound
+from .verdict import at_least, unbound
 from .words import grouped, shown, shown_name, spelled
 from .workplace import Workplace, finish, put
 
@@ -123,7 +123,7 @@ class Verdict:
     def status(self) -> int:
         """The worst of the nights; at least 1 where the manifest shows something, or there is no night."""
         worst = max((it.status for it in self.judged), default=1)
-        return max(worst, 1) if self.found else worst
+        return at_least(worst, self.found)
 
     def sentence(self) -> str:
         """In one line, with what time stamps show."""
@@ -427,7 +427,7 @@ def compare_payloads(nights: Sequence[Judged]) -> None:
             continue
         number, first = firsts.setdefault(it.entry.session, (it.number, it.vouched))
         if it.vouched != first:
-            it.status = max(it.status, 1)
+            it.status = at_least(it.status, "another payload")
             it.said = f"its session has another payload than in night {number}: {it.vouched.words()}; there {first.words()}; {it.said}"
 
 
@@ -444,7 +444,7 @@ def judged(night: Night, status: int, file: Dict[str, object], verdict: Dict[str
     size, sha256 = file["plain_size"] or file["size"], file["plain_sha256"] or file["sha256"]
     found = differs(Stored(shown_name(night.path), entry.name, int(str(size)), str(sha256)), entry.number, entry.size, entry.sha256)
     if found is not None:
-        status, said = max(status, 1), f"{found.what}; {said}"
+        status, said = at_least(status, found), f"{found.what}; {said}"
     keys = verdict["unbound_keys"]
     if not isinstance(keys, list):
         raise TypeError("no list of keys")

@@ -6,26 +6,17 @@ looked for, but a report of lines that aren't known is refused.
 """
 from __future__ import annotations
 
-import json
-from dataclasses import dataclass
-from typing import BinaryIO, Callable, Dict, Iterator, List, Optional, Sequence, Tuple, Union
+from dataclasses import dataclass, field
+from typing import BinaryIO, Callable, Dict, List, Optional, Sequence, Set
 
 from .blocks import Session
 from .damage import Damaged
-from .faults import Fault
 from .kept import Counters
 from .progress import Progress
-from .words import shown_front
+from .report_lines import PLACE, Values, front_of, session_of, stretches, text_of, values_of, wrong
 
-# lines are read by so many octets, so that a long stretch of `ok` lines is taken at once; fewer than the least are taken
-# line by line
-PIECE = 1 << 16
+# fewer octets of lines than these are taken line by line
 LEAST = 1 << 10
-# a long line isn't shown whole
-SHOWN = 60
-
-# the values of a line: words as texts, and numbers
-Values = List[Union[str, int]]
 
 
 @dataclass
@@ -35,9 +26,14 @@ class Group:
     session: Session
     sg: int
     spri: int
-    # the first and the last number that a line is about
+    # the first and the last number that a line is about, and the first announced one
     first: int = 0
     last: int = 0
+    announced: int = 0
+    # whether the last line, if there is one, is about a listed number; how many numbers no line is about; whether it has its tally
+    is_listing: bool = True
+    left_out: int = 0
+    is_tallied: bool = False
     listed: int = 0
     lost: int = 0
     disputed: int = 0
@@ -48,10 +44,11 @@ class Group:
     first_place: int = 0
     place: int = -1
 
-    def reach(self, first: int, last: int) -> None:
+    def reach(self, first: int, last: int, is_listed: bool) -> None:
         """Takes numbers into account, which follow those of the line before."""
+        self.left_out += first - self.last - 1
         self.first = self.first or first
-        self.last = last
+        self.last, self.is_listing = last, is_listed
 
     def compare(self, numbers: Sequence[int], places: Sequence[int]) -> None:
         """Counts those of these listed messages that stand before the one with the number before."""
@@ -84,6 +81,14 @@ class Totals:
     damaged_octets: int = 0
     torn: Optional[int] = None
     messages: int = 0
+    # lines that are findings by themselves, and the words of those that the options for nothing listed and for SHA-1 bring about
+    findings: int = 0
+    asked_findings: Set[str] = field(default_factory=set)
+
+    def bear_out(self, status: int) -> bool:
+        """Whether the status of the report is that of its lines, if it is to be a finding that nothing is listed."""
+        is_found = self.findings > 0 or bool(self.asked_findings)
+        return (status != 0) == is_found and (NONE_LISTED in self.asked_findings) == (self.listed == 0)
 
     def add(self, group: Group) -> None:
         """Adds what was counted of a group."""
@@ -124,7 +129,7 @@ class ReportVisitor:
         """Tells that the lines of a group follow."""
 
     def listed(self, group: Group, numbers: Sequence[int], places: Sequence[int]) -> None:
-        """Tells of messages that are listed under these numbers, at these places. A tally has none."""
+        """Tells of messages that are listed under these numbers, at these places. A report in brief has those beside others."""
 
     def gap(self, group: Group, number: int, why: str) -> None:
         """Tells of a number without its message."""
@@ -157,47 +162,13 @@ class ReportVisitor:
         """Tells how many messages there are."""
 
 
-def wrong(what: str) -> Fault:
-    """What is said of a report that can't be read."""
-    return Fault(f"the report of ssign review is wrong, so there is no verdict: {what}")
-
-
-def text_of(octets: bytes) -> str:
-    """The front of a line for a complaint."""
-    text, taken = shown_front(octets, SHOWN)
-    return f"'{text}{' ..' if taken < len(octets) else ''}'"
-
-
-def values_of(line: bytes) -> Tuple[str, Values]:
-    """The word of a line of either form, and its values."""
-    try:
-        word, *values = json.loads(line).values() if line.startswith(b"{") else line.decode("ascii").split(" ")
-    except (ValueError, AttributeError) as fault:
-        raise wrong(f"it has a line of another kind, {text_of(line)}") from fault
-    return word, values
-
-
-def session_of(values: Values) -> Session:
-    """The session that the first four values name."""
-    host, app, procid, rsid = (str(it).encode("ascii") for it in values[:4])
-    return Session(host, app, procid, rsid)
-
-
-def front_of(line: bytes) -> bytes:
-    """The front of an `ok` line up to its number."""
-    return line.rsplit(b" ", 2)[0] + b" " if not line.startswith(b"{") else line[:line.rindex(NUMBER) + len(NUMBER)]
-
-
-# what stands before the last two values of an object
-NUMBER, PLACE = b',"number":', b',"place":'
-
-
 class Reading:
     """Goes over a report, counts, and has visitors tell."""
 
-    def __init__(self, *visitors: ReportVisitor) -> None:
+    def __init__(self, *visitors: ReportVisitor, is_brief: bool = False) -> None:
         """Each of these is handed each line. All count as one, and the first one says which lines are asked for."""
         self._visitors = visitors
+        self._is_brief = is_brief
         self._visitor = visitors[0]
         for it in visitors:
             it.totals, it.states = self._visitor.totals, self._visitor.states
@@ -248,17 +219,23 @@ class Reading:
         self._list(group, numbers, values[1::2])
         return True
 
-    def _reach(self, group: Group, first: int, last: int) -> None:
-        """Takes numbers into account. A report that lost a line isn't read: a kept one may be damaged. It has a line about each
-        number from 1 on, or from where the night begins, and about those before the night that something in it announces."""
+    def _night(self, group: Group) -> Optional[int]:
+        """The number with which a night of this group begins."""
         begin = self._visitor.begin
-        night = begin.next_number(group.session, group.sg, group.spri) if begin is not None else None
-        if first != group.last + 1 and not group.last < first <= (night or 1):
+        return begin.next_number(group.session, group.sg, group.spri) if begin is not None else None
+
+    def _reach(self, group: Group, first: int, last: int, is_listed: bool = False) -> None:
+        """Takes numbers into account. A report that lost a line isn't read: a kept one may be damaged. It has a line about each
+        number from 1 on, or from where the night begins, and about those before the night that something in it announces. One in
+        brief leaves out listed numbers in front of a listed one."""
+        is_left_out = self._is_brief and is_listed and group.is_listing or first <= (self._night(group) or 1)
+        if first != group.last + 1 and not (is_left_out and group.last < first):
             raise wrong(f"number {first} of the group SG {group.sg}, SPRI {group.spri} follows number {group.last}")
-        group.reach(first, last)
+        group.reach(first, last, is_listed)
 
     def _list(self, group: Group, numbers: List[int], places: List[int]) -> None:
-        self._reach(group, numbers[0], numbers[-1])
+        self._reach(group, numbers[0], numbers[-1], True)
+        group.announced = group.announced or numbers[0]
         group.listed += len(numbers)
         if not self._visitor.is_in_order:
             group.compare(numbers, places)
@@ -267,6 +244,7 @@ class Reading:
 
     def _take(self, line: bytes) -> None:
         name, fields = values_of(line)
+        self._totals.findings += name not in NO_FINDINGS
         if name in OF_GROUPS:
             OF_GROUPS[name](self, self._group_of(fields[:6]), fields[6:])
             if name == "ok":
@@ -277,9 +255,8 @@ class Reading:
             OTHERS[name](self, fields)
         elif name in STRAYS:
             self._take_stray(name, int(fields[0]), str(fields[1]) if fields[1:] else "")
-        elif name in COUNTS:
-            setattr(self._totals, COUNTS[name], int(fields[0]))
-            self._totals.damaged_octets += int(fields[1]) if fields[1:] else 0
+        elif name in ASKED_FINDINGS:
+            self._totals.asked_findings.add(name)
         else:
             raise wrong(f"it has a line of another kind, {text_of(line)}")
 
@@ -298,6 +275,8 @@ class Reading:
     def _close_group(self) -> None:
         group, self._group = self._group, None
         if group is not None:
+            if self._is_brief and not group.is_tallied:
+                raise wrong(f"the group SG {group.sg}, SPRI {group.spri} has no tally")
             self._totals.add(group)
             for it in self._visitors:
                 it.end_group(group)
@@ -308,6 +287,7 @@ class Reading:
     def _take_gap(self, group: Group, fields: Values) -> None:
         number, why = int(fields[0]), str(fields[1])
         self._reach(group, number, number)
+        group.announced = group.announced or number
         group.lost += why == "lost"
         group.disputed += why == "disputed"
         for it in self._visitors:
@@ -324,12 +304,21 @@ class Reading:
         group.out_of_order, group.first_out_of_order, group.first_place = map(int, fields)
 
     def _take_tally(self, group: Group, fields: Values) -> None:
-        group.listed, group.lost, group.disputed, group.unannounced, group.first, group.last = map(int, fields)
+        """Takes the counts of a report in brief, which its lines have to bear out."""
+        listed, *others, first, last = map(int, fields)
+        least = group.listed + (group.left_out if self._night(group) is None else 0)
+        if [group.lost, group.disputed, group.unannounced] != others or last != group.last \
+                or not least <= listed <= group.listed + group.left_out:
+            raise wrong(f"the lines of the group SG {group.sg}, SPRI {group.spri} aren't those of its tally")
+        # a hole may stand in front of what is announced
+        group.first, group.last = min(group.first or first, first), last
+        group.listed, group.announced, group.is_tallied = listed, first, True
 
     # ---- other lines
 
     def _take_session(self, fields: Values) -> None:
         self._session, state = session_of(fields), str(fields[4])
+        self._totals.findings += state != "joined"
         self._visitor.states[state] = self._visitor.states.get(state, 0) + 1
         for it in self._visitors:
             it.session(self._session, state)
@@ -381,31 +370,17 @@ class Reading:
             it.end(int(fields[0]))
 
 
-# the words of lines: of those about numbers of a group, of messages by their places, of the counts of a tally, and the others
+# the words of lines: of those that are no finding, or of which only some are; of those about numbers of a group; of messages by
+# their places; of those that options for nothing listed and for SHA-1 bring about; and the others
+NONE_LISTED = "none-listed"
+ASKED_FINDINGS = ("sha1", NONE_LISTED)
+NO_FINDINGS = ("ok", "tally", "session", "end", *ASKED_FINDINGS)
 OF_GROUPS: Dict[str, Callable[[Reading, Group, Values], None]] = {
     "ok": Reading._take_ok, "gap": Reading._take_gap, "hole": Reading._take_hole, "disorder": Reading._take_disorder,
     "tally": Reading._take_tally,
 }
 STRAYS = ("unlisted", "refused", "spoilt")
-COUNTS = {"unlisted-count": "unlisted", "refused-count": "refused", "spoilt-count": "spoilt", "damaged-count": "damaged"}
 OTHERS: Dict[str, Callable[[Reading, Values], None]] = {
     "session": Reading._take_session, "early": Reading._take_early, "beyond": Reading._take_beyond, "tail": Reading._take_tail,
     "blocks": Reading._take_blocks, "damaged": Reading._take_damaged, "torn": Reading._take_torn, "end": Reading._take_end,
 }
-
-
-def stretches(report: BinaryIO) -> Iterator[bytes]:
-    """The report in stretches of whole lines."""
-    rest = b""
-    while True:
-        piece = report.read(PIECE)
-        if not piece:
-            break
-        whole, line_end, behind = piece.rpartition(b"\n")
-        if line_end:
-            yield rest + whole + line_end
-            rest = behind
-        else:
-            rest += piece
-    if rest:
-        raise wrong("it breaks off")

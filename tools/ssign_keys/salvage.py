@@ -4,7 +4,7 @@ from __future__ import annotations
 from typing import Iterable, NamedTuple, Optional
 
 from .damage import Damage, Damaged
-from .report import wrong
+from .report_lines import wrong
 
 SALVAGE = "--salvage"
 # the words of an inspection that are about no message

@@ -11,7 +11,8 @@ from .blocks import Session
 from .damage import Damage, Damaged
 from .kept import Counters
 from .reach import Reach
-from .report import Group, ReportVisitor, values_of, wrong
+from .report import Group, ReportVisitor
+from .report_lines import values_of, wrong
 
 # more octets than a last line has
 LONGEST = 64
@@ -72,15 +73,6 @@ class Survey(ReportVisitor):
     def has_blocks(self) -> bool:
         """Whether blocks are there, verified or not."""
         return bool(self.totals.refused + self.totals.spoilt + self.verified)
-
-    @property
-    def has_others(self) -> bool:
-        """Whether a line is another finding than an unverified block."""
-        totals = self.totals
-        outside = totals.early or totals.beyond or self.is_in_order and totals.out_of_order
-        return bool(totals.lost or totals.disputed or totals.unannounced or totals.tails or outside or totals.unlisted
-                    or totals.spoilt or totals.damaged or totals.torn is not None or self.missing
-                    or sum(self.states.values()) != self.states.get("joined", 0))
 
     def _name(self, places: Sequence[int]) -> None:
         if self._named:

@@ -33,8 +33,8 @@ SILENT = "A night without a message looks the same: `ssign-keys verify --nights 
 class Facts:
     """What a verdict rests on."""
 
-    review_status: int
-    """The status of `ssign review`."""
+    program_status: int
+    """The status of `ssign review`, where it is a finding that nothing is listed, and SHA-1 too unless that is allowed."""
     totals: Totals
     states: Dict[str, int]
     """How many sessions are in each state."""
@@ -48,7 +48,6 @@ class Facts:
     """In how much the logs differ from a manifest."""
     on_sha1: int = 0
     """How many sessions rest on SHA-1."""
-    is_sha1_allowed: bool = False
     is_night: bool = False
     """Whether the log is judged from counters on."""
     stamps: List[str] = field(default_factory=list)
@@ -56,8 +55,6 @@ class Facts:
     strangers: Dict[Session, Claimed] = field(default_factory=dict)
     """The unverified blocks that claim each joined session that has some."""
     are_strangers_ignored: bool = False
-    has_others: bool = True
-    """Whether the review found something else than unverified blocks."""
     unbound: List[str] = field(default_factory=list)
     """The file of each key that could have signed any session, as it is shown; empty where there is one such key."""
 
@@ -91,15 +88,24 @@ class Facts:
     @property
     def is_ignoring(self) -> bool:
         """Whether the review found nothing but such blocks, which are to be ignored and come after nothing that is verified."""
-        return self.are_strangers_ignored and not self.has_others and not self.late and 0 < self.totals.refused == self.of_strangers
+        return self.are_strangers_ignored and not self.late and 0 < self.totals.findings == self.totals.refused == self.of_strangers
+
+    @property
+    def review_status(self) -> int:
+        """The status of `ssign review` where only its own lines are findings."""
+        return int(self.totals.findings > 0)
 
     @property
     def status(self) -> int:
-        """The status of the verdict: never lower than that of the review, but for strangers' blocks that are to be ignored, and
-        0 only where something is authentic."""
-        is_shown = self.totals.listed and not self.manifest_findings and (self.is_sha1_allowed or not self.on_sha1)
-        found = 0 if self.is_ignoring else self.review_status
-        return found if is_shown else max(found, 1)
+        """The status of the verdict: that of the program, lower only where it found nothing but strangers' blocks that are to be
+        ignored, and at least 1 where the manifest differs."""
+        is_lowered = self.is_ignoring and not self.totals.asked_findings
+        return at_least(0 if is_lowered else self.program_status, self.manifest_findings)
+
+
+def at_least(status: int, found: object) -> int:
+    """A status, and no less than 1 where anything else was found."""
+    return max(status, 1 if found else 0)
 
 
 def sentence(facts: Facts) -> str:

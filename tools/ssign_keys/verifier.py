@@ -21,7 +21,9 @@ from .output import file_pieces
 from .pinned import CERTIFICATE, INSPECT, SIGNATURE, Known, Search
 from .programs import Refused, log_words
 from .refusals import warn_of_damage
-from .report import Reading, ReportVisitor, session_of, values_of
+from .raw_report import raw_pieces
+from .report import Reading, ReportVisitor
+from .report_lines import session_of, values_of, wrong
 from .reviewed import Reviewed
 from .runs import Runs
 from .salvage import SALVAGE
@@ -43,8 +45,10 @@ if TYPE_CHECKING:
 # A form that isn't asked for, and what is shown in it, is loaded where it is made: all of them take a fifth of a start.
 # each payload is written once
 ONCE = "--once"
-# a report has counts, and no line for each thing
-TALLY = "--tally"
+# a report has counts, and lines of listed messages only beside others
+BRIEF = "--brief"
+# findings of a verdict that none of a review is, without these options
+SOME_LISTED, NO_SHA1 = "--some-listed", "--no-sha1"
 # so many octets of answers are supposed besides four times those of the log
 ROOM = 1 << 24
 
@@ -70,8 +74,8 @@ class Missing(NamedTuple):
 class Verifier:
     """The runs of ssign over a log, with what is kept of them.
 
-    For a log without findings one run is all, which counts. The lines of others come from a second one, by the same answers. What
-    is shown of messages comes from one run more, for which their places are chosen before.
+    One run reviews. What is shown of messages comes from another one, for which their places are chosen before. A report that is
+    printed as it stands comes from a second review, by the same answers.
     """
 
     def __init__(self, runs: Runs, missing: Missing, listed: Optional[Listed], choose: Choose, reads_lines: bool = False) -> None:
@@ -96,10 +100,10 @@ class Verifier:
         self._owners: Optional[Owners] = None
         self.times: Optional[Times] = None
         """The times that the messages of the log state, where they are shown."""
-        # the option of ssign that makes the order a finding, or none
-        self._order = [] if arguments.any_order else ["--in-order"]
-        # whether nothing is shown of a line that is no finding
-        self._is_brief = listed is None and not (reads_lines or is_detailed(arguments) or arguments.any_order)
+        # what is a finding besides
+        self._findings = [SOME_LISTED, *([] if arguments.any_order else ["--in-order"]), *([] if arguments.allow_sha1 else [NO_SHA1])]
+        # whether the report needs no line of a listed message, but for those beside others
+        self._is_brief = not (reads_lines or is_detailed(arguments) or arguments.any_order)
         # whether nothing is shown but the report as it stands, and no status rests on more
         self._is_bare = arguments.raw and arguments.html is None and not arguments.ignore_strangers
         # what was asked about blocks that aren't validly signed
@@ -109,7 +113,8 @@ class Verifier:
         """Has ssign review the log."""
         log = self._log
         survey = self._survey_first(trust)
-        if self._is_brief and self._status or self.arguments.raw:
+        if self.arguments.raw:
+            self._is_brief = False
             survey = self._survey_again()
         log.damage = survey.damage
         if log.damage:
@@ -149,8 +154,7 @@ class Verifier:
         """Has ssign review the log in one run, which asks and is answered. Keeps the answers, and the report."""
         self._report = self._workplace.new_file("report")
         try:
-            words = [*self.missing.words, *self._order, *self._runs.words, *([TALLY] if self._is_brief else [])]
-            with Asking(self._runs.program, words, self._workplace, self._progress, self._report) as asking:
+            with Asking(self._runs.program, [*self._words(), *self._runs.words], self._workplace, self._progress, self._report) as asking:
                 asking.feed(self._runs.octets())
                 self._keep(asking.questions(), trust)
                 with open(self.answers_path, "rb") as kept:
@@ -178,17 +182,21 @@ class Verifier:
         self._unlooked = answered.counts.sentences()
 
     def _survey_again(self) -> Survey:
-        """Has ssign review the log once more, by the same answers, for a report with each line."""
+        """Has ssign review the log once more, by the same answers or other ones that are kept."""
         self._report = self._workplace.new_file("report")
-        self._status = self._read_again("review", [*self.missing.words, *self._order], self._report)
+        self._status = self._read_again("review", self._words(), self._report)
         return self._survey()
+
+    def _words(self) -> List[str]:
+        """What is asked of a review."""
+        return [*self.missing.words, *self._findings, *([BRIEF] if self._is_brief else [])]
 
     def _survey(self) -> Survey:
         """Goes over the report. That of a log that was written on is of another log, and is refused."""
         self._log.check_unchanged()
         listed, missing = self._listed, self.missing
         messages = messages_of(self._report)
-        survey = Survey(self.notes(), bool(missing.words), missing.counters, missing.begin, bool(self._order),
+        survey = Survey(self.notes(), bool(missing.words), missing.counters, missing.begin, not self.arguments.any_order,
                         0 if self.arguments.html is None else messages)
         beside: List[ReportVisitor] = []
         if listed is not None:
@@ -198,7 +206,9 @@ class Verifier:
             from .times import Owners
             self._owners = Owners(survey, messages)
             beside.append(self._owners)
-        Reading(survey, *beside).read(self._report, self._progress)
+        self.read(survey, *beside)
+        if not survey.totals.bear_out(self._status):
+            raise wrong("its status isn't that of its lines")
         return survey
 
     def _survey_disputed(self, survey: Survey, trust: Trust) -> Survey:
@@ -224,9 +234,9 @@ class Verifier:
         claims.compare(stored)
         facts = Facts(self._status, survey.totals, survey.states, survey.missing or 0, survey.reach.coverage(),
                       broken, 0 if self._listed is None else self._listed.compare(),
-                      survey.on_sha1, arguments.allow_sha1, missing.begin is not None, stamps.sentences,
+                      survey.on_sha1, missing.begin is not None, stamps.sentences,
                       strangers.count_strangers(claims, survey),
-                      arguments.ignore_strangers, survey.has_others, [shown_name(it) for it in trust.unbound_files(survey.joined)],
+                      arguments.ignore_strangers, [shown_name(it) for it in trust.unbound_files(survey.joined)],
                       dict(survey.other_keys), trust.given_words, arguments.any_order, len(stored.places), dict(survey.ended))
         return Reviewed(log, inspected, shown, self.notes(), survey, facts, bool(missing.words), missing.counters,
                         missing.begin, claims=claims, unproved=stored.places)
@@ -287,7 +297,7 @@ class Verifier:
 
     def read(self, *visitors: ReportVisitor) -> None:
         """Has these go over the report of the last review."""
-        Reading(*visitors).read(self._report, self._progress)
+        Reading(*visitors, is_brief=self._is_brief).read(self._report, self._progress)
 
     def count(self) -> str:
         """Has ssign count how far each session went. Gives the path of the counters file."""
@@ -319,7 +329,7 @@ class Verifier:
         pages = [] if arguments.html is None else [self._page(reviewed, listed)]
         if arguments.raw:
             self._notify(reviewed.facts, arguments, listed)
-            pieces = without_listed(file_pieces(self._report)) if arguments.findings else file_pieces(self._report)
+            pieces = raw_pieces(self._report, arguments.findings)
             if pages:
                 self.read(*pages)
         else:
@@ -384,11 +394,3 @@ def make_form(out: BinaryIO, reviewed: Reviewed, arguments: argparse.Namespace) 
         from . import json_verdict
         return json_verdict.JsonVerdict(out, reviewed, arguments.findings)
     return TextVerdict(out, reviewed, arguments.findings, arguments.details)
-
-
-def without_listed(pieces: Iterator[bytes]) -> Iterator[bytes]:
-    """The lines of a report that are no `ok` lines."""
-    rest = b""
-    for piece in pieces:
-        *lines, rest = (rest + piece).split(b"\n")
-        yield b"".join(it + b"\n" for it in lines if not it.startswith(b"ok "))
