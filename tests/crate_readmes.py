@@ -45,6 +45,7 @@ TEST_CRATES = {
     "ss_salvage": "test_salvage",
     "ss_answers": "test_signings",
     "ss_signing": "test_signings",
+    "ss_journal": "test_journals",
 }
 # a line, from 1, and what is wrong there
 Fault = Tuple[int, str]

@@ -1,0 +1,14 @@
+pub mod Counting
+pub mod Examples
+pub mod Fronts
+pub mod Kept
+pub mod Listed
+pub mod Lives
+pub mod Living
+pub mod LossyCalls
+pub mod LossyReads
+pub mod Same
+pub mod Moments
+pub mod SoFar
+pub mod Records
+pub mod Started

@@ -1,0 +1,15 @@
+pub mod Front
+pub mod Records
+pub mod RecordLaws
+pub mod Kinds
+pub mod Disk
+pub mod Counts
+pub mod Crash
+pub mod Law
+pub mod Laws
+pub mod Live
+pub mod LiveLaws
+pub mod Lossy
+pub mod LossyLaws
+pub mod Names
+pub mod Sound

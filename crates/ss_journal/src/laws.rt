@@ -1,0 +1,4 @@
+//! What holds of every file and of every life. Each law is the contract of a function that does nothing.
+
+pub mod lives;
+pub mod records;
