@@ -117,7 +117,7 @@ class Source:
             self._take(out, refused)
 
     def _take(self, said: BinaryIO, refused: Optional[Refused]) -> None:
-        """Keeps what ssign says of the file."""
+        """Keeps what ssign reports about the file."""
         read, where = self.read, 0 if refused is None else refused.where or 0
         if refused is not None and self._how.are_lines and refused.code in (LONG, EMPTY):
             is_empty = refused.code == EMPTY

@@ -14,7 +14,7 @@ UNPARSED = re.compile(rb"unparsed 0 (M[0-9]{1,2}) ([0-9]+)\n")
 
 
 def said(program: str, log: Log, place: int) -> List[bytes]:
-    """The frame of the message at a place of the log, and what ssign says of it alone."""
+    """The frame of the message at a place of the log, and what ssign reports about it alone."""
     words = ["extract", f"--place={place}", f"--max-len={LONGEST}", *(["--lines"] if log.are_lines else [])]
     frame = subprocess.run([program, *words], stdin=log.rewind(), stdout=subprocess.PIPE, stderr=subprocess.DEVNULL,
                            timeout=PATIENCE, check=False).stdout
