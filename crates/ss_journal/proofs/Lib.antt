@@ -1,5 +1,7 @@
+pub mod Beside
 pub mod Counting
 pub mod Examples
+pub mod Fitting
 pub mod Fronts
 pub mod Kept
 pub mod Listed
@@ -7,6 +9,7 @@ pub mod Lives
 pub mod Living
 pub mod LossyCalls
 pub mod LossyReads
+pub mod LossySeen
 pub mod Same
 pub mod Moments
 pub mod SoFar

@@ -11,5 +11,6 @@ pub mod Live
 pub mod LiveLaws
 pub mod Lossy
 pub mod LossyLaws
+pub mod LossyLeft
 pub mod Names
 pub mod Sound

@@ -12,7 +12,7 @@ mod reading;
 mod record;
 mod start;
 
-pub use disk::{Disk, JournalError};
+pub use disk::{Disk, JournalError, Look};
 pub use journal::Journal;
 pub use live::Command;
 pub use lossy::{Call, Lossy};
