@@ -7,7 +7,7 @@ _ssign_offer() {
     [[ $current == = ]] && current=
     case $1 in
     words) mapfile -t COMPREPLY < <(compgen -W "$2" -- "$current") ;;
-    codes) mapfile -t COMPREPLY < <(compgen -W 'F1 F2 F3 F4 F5 F9 A1 A2 A3 A4 Q1 C1 C2 C3 C4 C5 C6 N1 N2 N3 N4 V1 E1 E2 W1 W2 P1 P2 O1 O2 O3 O6 O7 O8 O9 O10 O11 verified unverified missing unannounced session ok gap lost hole early beyond blocks tail tally disorder unlisted refused spoilt damaged unlisted-count refused-count spoilt-count damaged-count torn signature-block certificate-block sha1 none-listed empty end joined disputed incomplete malformed untrusted unaccepted absent plain unparsed signature certificate wrapped-plain wrapped-unparsed wrapped-signature wrapped-certificate wrapped-spoilt count want seal payload trust\? yes\? M1 M2 M3 M4 M5 M6 M7 M8 M9 M10 M11 M12 S1 S2 S3 S4 S5 S6 S7 S8 S9' -- "$current") ;;
+    codes) mapfile -t COMPREPLY < <(compgen -W 'F1 F2 F3 F4 F5 F9 A1 A2 A3 A4 Q1 D1 C1 C2 C3 C4 C5 C6 N1 N2 N3 N4 V1 E1 E2 W1 W2 P1 P2 O1 O2 O3 O6 O7 O8 O9 O10 O11 verified unverified missing unannounced session ok gap lost hole early beyond blocks tail tally disorder unlisted refused spoilt damaged unlisted-count refused-count spoilt-count damaged-count torn signature-block certificate-block sha1 not-ignored none-listed empty end joined disputed incomplete malformed untrusted unaccepted absent plain unparsed signature certificate wrapped-plain wrapped-unparsed wrapped-signature wrapped-certificate wrapped-spoilt count want seal payload trust\? yes\? M1 M2 M3 M4 M5 M6 M7 M8 M9 M10 M11 M12 S1 S2 S3 S4 S5 S6 S7 S8 S9' -- "$current") ;;
     files)
         compopt -o filenames 2>/dev/null
         mapfile -t COMPREPLY < <(compgen -f -- "$current")
@@ -27,7 +27,7 @@ _ssign() {
         return
     fi
     if ((COMP_CWORD == 1)); then
-        _ssign_offer words 'review questions extract inspect plan sign counters carry explain help --help --version'
+        _ssign_offer words 'review questions extract inspect plan sign counters carry describe explain help --help --version'
         return
     fi
     ((COMP_CWORD > 3)) && second=${COMP_WORDS[COMP_CWORD - 2]}
@@ -103,7 +103,7 @@ _ssign() {
 # _ssign_words COMMAND CURRENT: a word that is no value of an option.
 _ssign_words() {
     case $1 in
-    review) _ssign_offer words '--answers --ask --findings --json --whole --tally --brief --blocks --in-order --not-empty --some-listed --no-sha1 --counters --from --pinned --salvage --lines --max-len --max-messages --help' ;;
+    review) _ssign_offer words '--answers --ask --findings --json --whole --tally --brief --blocks --in-order --not-empty --some-listed --no-sha1 --ignore-strangers --counters --from --pinned --salvage --lines --max-len --max-messages --help' ;;
     questions) _ssign_offer words '--json --once --pinned --salvage --lines --max-len --max-messages --help' ;;
     extract) _ssign_offer words '--answers --unlisted --place --places --lines-out --unwrap --pinned --salvage --lines --max-len --max-messages --help' ;;
     inspect) _ssign_offer words '--findings --json --facts --unwrap --salvage --lines --max-len --max-messages --help' ;;
@@ -111,6 +111,7 @@ _ssign_words() {
     sign) _ssign_offer words '--answers --resume --wrap --lines-out --payload --rsid --stamp --pri --host --app --procid --msgid --ver --groups --count --frag --copies --lines --max-len --max-messages --help' ;;
     counters) _ssign_offer words '--answers --json --pinned --salvage --lines --max-len --max-messages --help' ;;
     carry) _ssign_offer words '--answers --salvage --lines --max-len --max-messages --help' ;;
+    describe) _ssign_offer words '--help' ;;
     explain)
         if [[ $2 == -* ]]; then
             _ssign_offer words '--json --help'
@@ -118,7 +119,7 @@ _ssign_words() {
             _ssign_offer codes
         fi
         ;;
-    help) _ssign_offer words 'review questions extract inspect plan sign counters carry explain' ;;
+    help) _ssign_offer words 'review questions extract inspect plan sign counters carry describe explain' ;;
     esac
 }
 

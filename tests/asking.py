@@ -35,7 +35,7 @@ UNREAD, EARLY, ENDLESS = "ssign didn't read %s to the end", "ssign asks or waits
 CHANGED = "the log mapped was changed while it was read: run again, or hand over a copy"
 PAYLOAD, END = b'{"line":"payload","payload_index":0,"payload":"S0VZ"}\n', b'{"line":"end"}\n'
 # the options that questions don't have
-OF_REVIEWS = "--in-order", "--some-listed", "--no-sha1", "--brief"
+OF_REVIEWS = "--in-order", "--some-listed", "--no-sha1", "--ignore-strangers", "--brief"
 NO_QUESTION = "ssign-keys: line %d is no object `payload`, `trust?` or `yes?` of ssign review --ask --json"
 passed = failed = 0
 

@@ -1,5 +1,6 @@
 #!/usr/bin/env python3
-"""What `ssign review` makes of `--brief`, `--blocks`, `--no-sha1` and `--some-listed`, by the definition in docs/dev/FORMATS.md.
+"""What `ssign review` makes of `--brief`, `--blocks`, `--no-sha1`, `--some-listed` and `--ignore-strangers`, by the definition in
+docs/dev/FORMATS.md.
 
     brief.py PROGRAM
 
@@ -17,7 +18,7 @@ import os
 import random
 import sys
 import tempfile
-from typing import Any, Counter, Iterable, Iterator, List, NamedTuple, Optional, Sequence, Set, Tuple
+from typing import Any, Counter, Iterable, Iterator, List, Mapping, NamedTuple, Optional, Sequence, Set, Tuple
 
 import brief_logs
 import counted_logs
@@ -36,8 +37,8 @@ MOST = 10_000_000_000
 # how many differences are shown
 SHOWN = 5
 ENTRIES = ("ok", "gap", "hole")
-OPTIONS = ["--brief", "--blocks", "--no-sha1", "--some-listed"]
-ADDED = [list(it) for size in range(1, 5) for it in itertools.combinations(OPTIONS, size)]
+OPTIONS = ["--brief", "--blocks", "--no-sha1", "--some-listed", "--ignore-strangers"]
+ADDED = [list(it) for size in range(1, 6) for it in itertools.combinations(OPTIONS, size)]
 FORMS: List[List[str]] = [[], ["--json"], ["--findings"], ["--findings", "--json"], ["--tally"], ["--tally", "--json"],
                           ["--tally", "--findings"]]
 # the last line of the questions of `--ask`
@@ -82,10 +83,45 @@ def brief_text(report: Iterable[str]) -> List[str]:
     return text
 
 
+def claimed_by(block: Block) -> Tuple[str, ...]:
+    """The session that a block claims, as a line spells it."""
+    return (*(it.decode() for it in block.session[:3]), str(block.session[3]))
+
+
+def is_known_to(block: Block, own: Sequence[Block]) -> bool:
+    """Whether these signature blocks have a GBC that isn't below that of a block, and such a last number of its group."""
+    last = block.first + block.count
+    return any(it.gbc >= block.gbc for it in own) and any(it.group == block.group and it.first + it.count >= last for it in own)
+
+
+def suspicion(block: Block, own: Mapping[Tuple[str, ...], Sequence[Block]]) -> str:
+    """Why a refused block isn't to be ignored, or nothing: `own` has the verified signature blocks of each joined session."""
+    claimed = claimed_by(block)
+    if claimed not in own:
+        return "unjoined"
+    fellows = [it for it in own if it[:3] == claimed[:3]]
+    return "" if block.is_certificate or all(is_known_to(block, own[it]) for it in fellows) else "late"
+
+
+def not_ignored(blocks: Sequence[Block], verified: Set[int], report: Sequence[str]) -> Iterator[str]:
+    """The lines of the refused blocks that aren't to be ignored."""
+    sessions = [it.split(" ") for it in report if it.startswith("session ")]
+    known = [it for it in blocks if it.place in verified and not it.is_certificate]
+    own = {tuple(it[1:5]): [block for block in known if claimed_by(block) == tuple(it[1:5])] for it in sessions if it[5] == "joined"}
+    for block in blocks:
+        why = "" if block.place in verified else suspicion(block, own)
+        if why:
+            yield f"not-ignored {block.place} {why}"
+
+
+def is_finding(words: Sequence[str]) -> bool:
+    """Whether a line of a report is a finding, where refused blocks aren't."""
+    return words[-1] != "joined" if words[0] == "session" else words[0] not in ("ok", "refused", "end")
+
+
 def block_line(block: Block, is_verified: bool) -> str:
     """The line of a block."""
-    names = [it.decode() for it in block.session[:3]]
-    fields = [block.place, "yes" if is_verified else "no", *names, block.session[3], block.version, *block.group]
+    fields = [block.place, "yes" if is_verified else "no", *claimed_by(block), block.version, *block.group]
     if block.is_certificate:
         return " ".join(map(str, ["certificate-block", *fields, block.total, block.index, len(block.fragment)]))
     return " ".join(map(str, ["signature-block", *fields, block.gbc, block.first, block.count]))
@@ -96,6 +132,7 @@ def front_text(blocks: Sequence[Block], verified: Set[int], report: Sequence[str
     text = [block_line(it, it.place in verified) for it in blocks] if "--blocks" in words else []
     weak = [it.place for it in blocks if it.place in verified and not it.is_certificate and it.version == "0111"]
     text += [f"sha1 {it}" for it in weak[:1] if "--no-sha1" in words]
+    text += not_ignored(blocks, verified, report) if "--ignore-strangers" in words else []
     is_listed = any(it.startswith("ok ") for it in report)
     return text + ([] if is_listed or "--some-listed" not in words else ["none-listed"])
 
@@ -153,8 +190,13 @@ def wanted_of(case: Case, added: Sequence[str], form: Sequence[str]) -> Tuple[in
     text = brief_text(case.plain) if "--brief" in added else case.plain
     text = front + (case.tallied if "--tally" in form else text)
     text = [it for it in text if not it.startswith("ok ")] if "--findings" in form else text
-    is_found = any(it.split(" ")[0] in ("sha1", "none-listed") for it in front)
-    return max(case.status, int(is_found)), text
+    is_found = any(it.split(" ")[0] in ("sha1", "not-ignored", "none-listed") for it in front)
+    return max(status_without(case, added), int(is_found)), text
+
+
+def status_without(case: Case, added: Sequence[str]) -> int:
+    """The status of a review with these options, as far as the lines in front don't decide it."""
+    return int(any(is_finding(it.split(" ")) for it in case.plain)) if "--ignore-strangers" in added else case.status
 
 
 def fault_in(said: Tuple[int, bytes, bytes], wanted: Tuple[int, List[str]], form: Sequence[str]) -> str:
@@ -243,7 +285,7 @@ def beside(folder: str, messages: Sequence[bytes]) -> Iterator[Tuple[List[str], 
 
 def mistakes(program: Program) -> None:
     """Mistakes with each option, refusals beside it, and an explanation of each word."""
-    for word in ("signature-block", "certificate-block", "sha1", "none-listed"):
+    for word in ("signature-block", "certificate-block", "sha1", "not-ignored", "none-listed"):
         status, out, err = program.run(["explain", word])
         tell(f"explain {word}", "" if status == 0 and out.endswith(b".\n") and not err else f"status {status} {out!r} {err!r}")
     log = frame(TOLD[0])
@@ -262,7 +304,9 @@ def mistakes(program: Program) -> None:
 KINDS = ["a message that is left out", "a neighbour before", "a neighbour after", "one between two gaps",
          "a last message alone", "a hole", "a disputed number", "sha1", "no sha1 of a joined session",
          "SHA-1 that isn't verified alone", "none-listed", "a finding by SHA-1 alone", "a finding because nothing is listed",
-         "both kinds of block, yes", "both kinds of block, no", "a block that is left out by --pinned", "--from", "--salvage",
+         "both kinds of block, yes", "both kinds of block, no", "a block that is left out by --pinned", "a block that may be the last",
+         "a block of a session that isn't joined", "a finding that is ignored", "a block that is ignored beside a finding", "--from",
+         "--salvage",
          "--lines", "torn", "damaged", "disorder", "tail", "early"]
 
 
@@ -287,6 +331,20 @@ def kinds_of(case: Case) -> Iterator[str]:
     if case.status == 0 and ["none-listed"] in words:
         yield "a finding because nothing is listed"
     yield from kinds_of_brief(case)
+    yield from kinds_of_strangers(case)
+
+
+def kinds_of_strangers(case: Case) -> Iterator[str]:
+    """Which refused blocks a log has."""
+    suspects = list(not_ignored(case.blocks, case.verified, case.plain))
+    has_others = any(is_finding(it.split(" ")) for it in case.plain)
+    ignored = sum(it.startswith("refused ") for it in case.plain) - len(suspects)
+    yield from {"a block that may be the last" for it in suspects if it.endswith(" late")}
+    yield from {"a block of a session that isn't joined" for it in suspects if it.endswith(" unjoined")}
+    if ignored and not suspects and not has_others:
+        yield "a finding that is ignored"
+    if ignored and has_others:
+        yield "a block that is ignored beside a finding"
 
 
 def kinds_of_brief(case: Case) -> Iterator[str]:
@@ -368,7 +426,7 @@ def by_seed(program: Program, folder: str) -> None:
         reached["a block that is left out by --pinned"] += "--pinned" in case.words and bool(claims and case.verified)
     for kind in KINDS:
         print(f"brief: {reached[kind]:6} {kind}")
-        tell(f"some log has {kind}", "" if reached[kind] > 9 else f"{reached[kind]} have")
+        tell(f"some log has {kind}", "" if reached[kind] > 4 else f"{reached[kind]} have")
 
 
 def main() -> int:

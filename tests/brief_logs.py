@@ -31,6 +31,11 @@ def none_by(*versions: bytes) -> Answers:
         b'VER="%s"' % it in signed for it in versions)
 
 
+def but_forged(payload: bytes, signed: bytes, sign: bytes) -> bool:
+    """Whether a signature isn't the forged one."""
+    return sign != base64.b64decode(b"BBBB")
+
+
 class Hand(NamedTuple):
     """A log that was worked out by hand."""
 
@@ -57,7 +62,9 @@ def tally(counts: str, group: str = "0 0") -> str:
     return f"tally h s - 1 {group} {counts}"
 
 
-BRIEF, BLOCKS, NO_SHA1, SOME = (["--" + it] for it in ("brief", "blocks", "no-sha1", "some-listed"))
+BRIEF, BLOCKS, NO_SHA1, SOME, IGNORE = (["--" + it] for it in ("brief", "blocks", "no-sha1", "some-listed", "ignore-strangers"))
+# in place of a signature that is valid
+FORGED = b' SIGN="BBBB"'
 BY_HAND = [
     Hand("all are listed", [*TOLD, C, FIVE_OF_THEM], ALL, BRIEF, [J, ok(5, 4), tally("5 0 0 0 1 5"), "end 7"], 0),
     Hand("one listed message", [ONE, C, signature(h(ONE))], ALL, BRIEF, [J, ok(1, 0), tally("1 0 0 0 1 1"), "end 3"], 0),
@@ -108,6 +115,22 @@ BY_HAND = [
          ["none-listed", "empty", "end 0"], 1),
     Hand("a session without a signature block", [CERTIFICATE_256], ALL, [*SOME, *NO_SHA1, *BLOCKS],
          ["certificate-block 0 yes h s - 1 0121 0 0 27 1 27", "none-listed", J, "end 1"], 1),
+    Hand("a block of a stranger", [*TOLD[:3], C, THREE_OF_THEM, signature(h(FIVE), sign=FORGED)], (always, but_forged), IGNORE,
+         [J, ok(1, 0), ok(2, 1), ok(3, 2), "refused 5", "end 6"], 0),
+    Hand("a certificate block of a stranger", [C, certificate(sign=FORGED)], (always, but_forged), [*IGNORE, *BLOCKS],
+         [C0, C0.replace(" 0 yes", " 1 no"), J, "refused 1", "end 2"], 0),
+    Hand("a greater GBC, and a greater number", [*TOLD[:3], C, THREE_OF_THEM, signature(h(FIVE), gbc=1, sign=FORGED),
+                                                 signature(h(FIVE), first=4, sign=FORGED)],
+         (always, but_forged), [*IGNORE, *BRIEF],
+         ["not-ignored 5 late", "not-ignored 6 late", J, ok(3, 2), tally("3 0 0 0 1 3"), "refused 5", "refused 6", "end 7"], 1),
+    Hand("a later session reaches less", [*TOLD[:3], C, THREE_OF_THEM, signature(h(FIVE), sign=FORGED), certificate(rsid=2)],
+         (always, but_forged), [*IGNORE, "--findings"],
+         ["not-ignored 5 late", J, "session h s - 2 joined", "refused 5", "end 7"], 1),
+    Hand("a session that isn't joined", [*TOLD[:3], C, THREE_OF_THEM, signature(h(FIVE), rsid=3)], ALL, [*IGNORE, "--tally"],
+         ["not-ignored 5 unjoined", J, tally("3 0 0 0 1 3"), "session h s - 3 incomplete", "unlisted-count 0", "refused-count 1",
+          "spoilt-count 0", "end 6"], 1),
+    Hand("a block of a stranger, and a lost message", [ONE, TWO, C, THREE_OF_THEM, signature(h(FIVE), sign=FORGED)],
+         (always, but_forged), IGNORE, [J, ok(1, 0), ok(2, 1), gap(3), "refused 4", "end 5"], 1),
     Hand("one message is listed", [ONE, C, FIVE_OF_THEM], ALL, [*SOME, "--findings"],
          [J, *map(gap, range(2, 6)), "end 3"], 1),
     Hand("all in front", [C, FIVE_OF_THEM], NO_SIGNATURE, [*SOME, *NO_SHA1, *BLOCKS, *BRIEF],
@@ -163,6 +186,9 @@ class Long(Counting):  # type: ignore[misc]
         for _ in range(chance.randint(0, 7)):
             group = chance.choice(sorted(numbers))
             numbers[group] = self.announce(session, group, numbers[group])
+        if self.is_whole and chance.random() < 0.5:
+            again = chance.choice(self.blocks).text.replace(b'SIGN="', b'SIGN="AAAA')
+            self.stored.insert(chance.randint(0, len(self.stored)), again)
         odds = 1 if self.is_whole else chance.choice([1, 1, 1, 0.9, 0])
         valid = {(payload, it.signed, base64.b64decode(it.sign)) for it in self.blocks if chance.random() < odds}
         return self.stored, {payload}, valid

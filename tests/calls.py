@@ -172,7 +172,7 @@ def cases(known):
     reviewed = {"sha1": hashes, "sha256": hashes, "parsed": blocks, "reviews": 1}
     # the certificate block to accept the payload, and each of the blocks to verify it
     asked = {"asked": 1 + 1 + blocks // 2, "files": 1}
-    in_front = ["--brief", "--blocks", "--no-sha1", "--some-listed"]
+    in_front = ["--brief", "--blocks", "--no-sha1", "--some-listed", "--ignore-strangers"]
     for words in (["review"], ["review", "--tally"], ["review", "--whole"], ["review", *in_front], ["extract"], ["counters"],
                   ["carry"]):
         parsed = (2 if words == ["carry"] else 1) * blocks

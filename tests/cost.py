@@ -56,7 +56,7 @@ TUNED = {"GLIBC_TUNABLES": "glibc.cpu.x86_rep_movsb_threshold=1000000000:glibc.c
 # the most octets that are taken at one time: two buffers, of which that of standard output is made before the command line
 # is read, and the command line; one buffer more for a file that an option names, and so many more for each octet that is
 # read or written
-ROOM, ROOM_OF_FILE, ROOM_FOR_EACH = 184 << 10, 1 << 16, 24
+ROOM, ROOM_OF_FILE, ROOM_FOR_EACH = 188 << 10, 1 << 16, 24
 # the same of all that is ever taken
 SPENT, SPENT_FOR_EACH = 528 << 10, 40
 # how much one read asks for

@@ -46,6 +46,9 @@ TEST_CRATES = {
     "ss_answers": "test_signings",
     "ss_signing": "test_signings",
     "ss_journal": "test_journals",
+    "ss_folder": "test_folders",
+    "ss_signed": "test_signed",
+    "ss_live": "test_lives",
 }
 # a line, from 1, and what is wrong there
 Fault = Tuple[int, str]

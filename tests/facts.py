@@ -55,7 +55,7 @@ def facts_of(text, is_named):
     block = reading(0, text)
     if isinstance(block, Block):
         facts += [("fragment", encoded(block.fragment))] if block.is_certificate else []
-        facts += [("signed", encoded(block.signed)), ("signature", encoded(block.sign))]
+        facts += [("ver", block.version), ("signed", encoded(block.signed)), ("signature", encoded(block.sign))]
     return facts
 
 

@@ -238,7 +238,7 @@ def main():
             ran = subprocess.run([PROGRAM, "review", f"{word}={value}"], input=log, capture_output=True, check=False)
             tell(f"{word} with a value", "" if ran.returncode == 2 and ran.stderr and not ran.stdout else repr(ran))
         for words in (["extract", "--json"], ["extract", "--findings"], ["questions", "--findings"], ["counters", "--findings"],
-                      *([it, f"--{word}"] for it in ("inspect", "counters", "extract") for word in ("brief", "blocks", "no-sha1", "some-listed")),
+                      *([it, f"--{word}"] for it in ("inspect", "counters", "extract") for word in ("brief", "blocks", "no-sha1", "some-listed", "ignore-strangers")),
                       ["review", "--once"], ["extract", "--once"], ["inspect", "--once"], ["counters", "--once"],
                       ["questions", "--once=x"], ["questions", "--once", "--once"], ["inspect", "--pinned", os.devnull],
                       ["plan", "--pinned", os.devnull], ["carry", "--pinned", os.devnull],
@@ -267,7 +267,7 @@ def main():
         # between.py, tally.py, order.py and brief.py
         wanted = {*KEYS, *OTHER_KEYS} - {"blocks", "tail", "early", "beyond", "tally", "unlisted-count", "refused-count",
                                          "spoilt-count", "damaged-count", "disorder", "empty", "signature-block",
-                                         "certificate-block", "sha1", "none-listed"}
+                                         "certificate-block", "sha1", "not-ignored", "none-listed"}
         tell("each kind of line was seen", "" if words_seen == wanted else f"{wanted ^ words_seen}")
     print(f"forms: {passed} passed, {failed} failed")
     return 1 if failed else 0

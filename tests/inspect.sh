@@ -189,8 +189,8 @@ shown 'places in any order, one twice, and some that the log has not' 0 $'999999
     "$(about '' ",\"text\":\"$(encoded "$late")\"" '' '' ",\"text\":\"$(encoded "${H}[ssign]")\"" '')" <"$scratch/log"
 # MjAw.. is 2009-05-03T14:00:39Z K S0VZ, and AAAA three zeros
 shown 'blocks' 0 $'3\n2\n' "$(about '' '' \
-    ",\"text\":\"$(encoded "$H$certificate")\",\"fragment\":\"MjAwOS0wNS0wM1QxNDowMDozOVogSyBTMFZa\",\"signed\":\"$(encoded "$H$unsigned_certificate")\",\"signature\":\"AAAA\"" \
-    ",\"text\":\"$(encoded "$H$signature")\",\"signed\":\"$(encoded "$H$unsigned_signature")\",\"signature\":\"AAAA\"" '' '')" <"$scratch/log"
+    ",\"text\":\"$(encoded "$H$certificate")\",\"fragment\":\"MjAwOS0wNS0wM1QxNDowMDozOVogSyBTMFZa\",\"ver\":\"0111\",\"signed\":\"$(encoded "$H$unsigned_certificate")\",\"signature\":\"AAAA\"" \
+    ",\"text\":\"$(encoded "$H$signature")\",\"ver\":\"0111\",\"signed\":\"$(encoded "$H$unsigned_signature")\",\"signature\":\"AAAA\"" '' '')" <"$scratch/log"
 shown 'a wrap' 0 $'5\n' "$(about '' '' '' '' '' ",\"text\":\"$(encoded "${wrap}abc")\",\"original\":\"YWJj\"")" <"$scratch/log"
 shown 'the original of a wrap' 0 $'5\n' "$(about '' '' '' '' '' ",\"text\":\"$(encoded "${wrap}abc")\",\"original\":\"YWJj\"" |
     sed 's/"plain","place":5/"wrapped-unparsed","place":5,"part":"M1","offset":0/')" --unwrap <"$scratch/log"
@@ -199,7 +199,7 @@ shown 'a wrap of nothing' 0 $'0\n' "{\"line\":\"plain\",\"place\":0,\"octets\":2
 shown 'findings' 0 $'1\n5\n' "$(about '' '' '' '' '' '' | grep -v '"plain"')" --findings <"$scratch/log"
 shown 'an escaped fragment' 0 $'0\n' "{\"line\":\"certificate\",\"place\":0,$names,\"total\":4,\"index\":1,\"length\":4,\"octets\":120,\"timestamp\":\"-\",\"marked\":1,\"text\":\"$(
     encoded "${H}[ssign-cert VER=\"0111\" RSID=\"1\" SG=\"0\" SPRI=\"0\" TPBL=\"4\" INDEX=\"1\" FLEN=\"4\" FRAG=\"\\\"\\]\\\\x\" SIGN=\"AQ==\"]"
-)\",\"fragment\":\"Il1ceA==\",\"signed\":\"$(
+)\",\"fragment\":\"Il1ceA==\",\"ver\":\"0111\",\"signed\":\"$(
     encoded "${H}[ssign-cert VER=\"0111\" RSID=\"1\" SG=\"0\" SPRI=\"0\" TPBL=\"4\" INDEX=\"1\" FLEN=\"4\" FRAG=\"\\\"\\]\\\\x\"]"
 )\",\"signature\":\"AQ==\"}
 {\"line\":\"end\",\"count\":1}" < <(frame "${H}[ssign-cert VER=\"0111\" RSID=\"1\" SG=\"0\" SPRI=\"0\" TPBL=\"4\" INDEX=\"1\" FLEN=\"4\" FRAG=\"\\\"\\]\\\\x\" SIGN=\"AQ==\"]")

@@ -31,6 +31,7 @@ OTHER_KEYS = {
     "signature-block": [["place", "verified", *SESSION, "ver", "sg", "spri", "gbc", "first", "count"]],
     "certificate-block": [["place", "verified", *SESSION, "ver", "sg", "spri", "total", "index", "length"]],
     "sha1": [["place"]],
+    "not-ignored": [["place", "why"]],
     "none-listed": [[]],
     "tally": [[*GROUP, "ok", "lost", "disputed", "holes", "first", "last"]],
     "disorder": [[*GROUP, "count", "number", "place"]],

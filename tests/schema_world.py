@@ -159,9 +159,9 @@ def damaged_logs(logs: Logs) -> Iterator[Case]:
     yield Case(REPORT, [*review, "--salvage", "--tally", *given], salvaged, 1, "damaged-count")
     yield Case(REPORT, ["inspect", "--json", "--salvage"], salvaged, 1, "damaged")
     yield Case(REPORT, [*review, "--not-empty"], logs.put("nothing", b""), 1, "empty end")
-    in_front = [*review, "--brief", "--blocks", "--no-sha1", "--some-listed"]
+    in_front = [*review, "--brief", "--blocks", "--no-sha1", "--some-listed", "--ignore-strangers"]
     yield Case(REPORT, [*in_front, *given], logs.path("whole"), 1, "signature-block certificate-block sha1 tally")
-    yield Case(REPORT, in_front, logs.path("whole"), 1, "signature-block certificate-block none-listed refused")
+    yield Case(REPORT, in_front, logs.path("whole"), 1, "signature-block certificate-block not-ignored none-listed refused")
     first = logs.put("first", b"count h s - 1 1\ncount h s - 1 0 0 3\nend 2\n")
     second = logs.put("second", b"count h s - 1 2\ncount h s - 1 0 0 5\ncount other s - 9 2\nend 3\n")
     yield Case(REPORT, [*review, "--from", first, "--counters", second, *given], logs.path("whole"), 1,

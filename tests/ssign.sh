@@ -574,7 +574,7 @@ said 'the crate is reported' 'ssign: ss_frame'
 said 'no recorded program' "ssign: there is no recorded program to compare it with, or its text isn't whole"
 holds 'what the prover says is in the file' grep -q '^fn ss_frame::write::write_frame: proved$' "$copy/crates/ssign/out/ssign.log"
 holds 'and not on standard error' test -z "$(grep '^fn ' "$scratch/err")"
-each='ss_octets ss_frame ss_message ss_payload ss_block ss_origin ss_review ss_report ss_answers ss_signing'
+each='ss_octets ss_frame ss_message ss_payload ss_block ss_signed ss_origin ss_review ss_report ss_answers ss_signing'
 holds 'each library was asked for by itself before, lowest first' test "$(tr '\n' ' ' <"$libraries")" = "$each "
 rm -- "$scratch/called"
 ssign "$with_rt" review --answers "$answers" <"$log"

@@ -520,7 +520,7 @@ chmod +x recording
 keys verify --key keys/public-key.pem --whole --max-len 9999 --ssign ./recording stored
 holds 'the words of ssign' cmp <(sed 's|=/[^ ]*/|=|g' called) \
     <(printf '%s\n' --version \
-        'review --ask=asked --answers=given --json --whole --some-listed --in-order --no-sha1 --brief --max-len=9999 --salvage')
+        'review --ask=asked --answers=given --json --whole --some-listed --ignore-strangers --in-order --no-sha1 --brief --max-len=9999 --salvage')
 printf '#!/bin/sh\nexit 2\n' >silent
 chmod +x silent
 for form in '' --json --raw; do
@@ -799,7 +799,7 @@ keys verify --key keys/public-key.pem --counters counters.1 --max-len 9999 --ssi
 says 'the words of ssign with --counters: the verdict' 0 "$all_there Nothing is missing up to the counters."
 holds 'the words of ssign with --counters' cmp <(sed 's|=/[^ ]*/|=|g' called) \
     <(printf '%s\n' --version 'review --counters=counters' \
-        'review --ask=asked --answers=given --json --counters=counters --some-listed --in-order --no-sha1 --brief --max-len=9999 --salvage')
+        'review --ask=asked --answers=given --json --counters=counters --some-listed --ignore-strangers --in-order --no-sha1 --brief --max-len=9999 --salvage')
 
 # ---- what no block signed, and hostile texts
 for it in logger rsyslog syslog-ng; do

@@ -96,9 +96,9 @@ class Claims:
         """How many there are."""
         return len(self._owners)
 
-    def __iter__(self) -> Iterator[Tuple[Claim, int]]:
-        """Each of them, with how many stored messages have its hashes."""
-        return ((self._claim(row), self._stored[row]) for row in range(len(self)))
+    def __iter__(self) -> Iterator[Tuple[int, Claim, int]]:
+        """The place of each of them, the block, and how many stored messages have its hashes."""
+        return ((place, self._claim(row), self._stored[row]) for place, row in self._rows.items())
 
     def take(self, it: Object) -> None:
         """Takes the object of a block."""

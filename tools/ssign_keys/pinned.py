@@ -21,7 +21,6 @@ from .json_text import compact
 from .keys import PublicKey
 from .payloads import state_key
 from .runs import Runs
-from .schemes import SCHEMES
 from .trust import Trust, Trusted
 from .words import grouped
 from .workplace import finish, put
@@ -242,17 +241,13 @@ class Search:
         for payload in stated:
             yield line_of({"line": "payload", "payload": payload.decode("ascii")})
         for it in self._each(inspected):
-            signed = base64.b64decode(it.fields["signed"])
-            # an inspection doesn't state VER. Under one that doesn't stand there nothing was signed
-            versions = [name.decode("ascii") for name in SCHEMES if b'VER="%s"' % name in signed]
             for number in of_sessions[it.session]:
-                for version in versions:
-                    yield line_of({"line": YES.decode("ascii"), "payload_index": number, "octets": it.fields["signed"],
-                                   "ver": version, **{key: it.fields[key] for key in ABOUT}})
+                yield line_of({"line": YES.decode("ascii"), "payload_index": number, "octets": it.fields["signed"],
+                               **{key: it.fields[key] for key in ABOUT}})
 
 
 # what a question about a block has of what an inspection reports
-ABOUT = ("signature", "place", "host", "app", "procid", "rsid", "sg", "spri")
+ABOUT = ("signature", "place", "host", "app", "procid", "rsid", "sg", "spri", "ver")
 
 
 def line_of(fields: Dict[str, object]) -> bytes:

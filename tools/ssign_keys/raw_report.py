@@ -4,9 +4,9 @@ from __future__ import annotations
 from typing import BinaryIO, Iterator
 
 from .output import PIECE
-from .report import ASKED_FINDINGS
+from .report import ASKED_FINDINGS, NOT_IGNORED
 
-ASKED = tuple(it.encode("ascii") for it in ASKED_FINDINGS)
+ASKED = tuple(it.encode("ascii") for it in (*ASKED_FINDINGS, NOT_IGNORED))
 
 
 def raw_pieces(report: BinaryIO, only_findings: bool) -> Iterator[bytes]:

@@ -84,10 +84,13 @@ class Totals:
     # lines that are findings by themselves, and the words of those that the options for nothing listed and for SHA-1 bring about
     findings: int = 0
     asked_findings: Set[str] = field(default_factory=set)
+    # refused blocks that aren't strangers' ones which change nothing
+    not_ignored: int = 0
 
     def bear_out(self, status: int) -> bool:
-        """Whether the status of the report is that of its lines, if it is to be a finding that nothing is listed."""
-        is_found = self.findings > 0 or bool(self.asked_findings)
+        """Whether the status of the report is that of its lines, if it is to be a finding that nothing is listed, and none that a
+        block was refused which changes nothing."""
+        is_found = self.findings > self.refused or self.not_ignored > 0 or bool(self.asked_findings)
         return (status != 0) == is_found and (NONE_LISTED in self.asked_findings) == (self.listed == 0)
 
     def add(self, group: Group) -> None:
@@ -151,6 +154,9 @@ class ReportVisitor:
 
     def stray(self, kind: str, place: int, cause: str) -> None:
         """Tells of a message that is `unlisted`, `refused` or, for a cause, `spoilt`."""
+
+    def not_ignored(self, place: int, why: str) -> None:
+        """Reports that a refused block is a finding, though those of strangers aren't, because it is `unjoined` or `late`."""
 
     def damaged(self, stretch: Damaged) -> None:
         """Reports damaged octets. Only --salvage brings such a line about."""
@@ -352,6 +358,11 @@ class Reading:
         for it in self._visitors:
             it.stray(kind, place, cause)
 
+    def _take_not_ignored(self, fields: Values) -> None:
+        self._totals.not_ignored += 1
+        for it in self._visitors:
+            it.not_ignored(int(fields[0]), str(fields[1]))
+
     def _take_damaged(self, fields: Values) -> None:
         stretch = Damaged(*map(int, fields))
         self._totals.damaged += 1
@@ -374,7 +385,8 @@ class Reading:
 # their places; of those that options for nothing listed and for SHA-1 bring about; and the others
 NONE_LISTED = "none-listed"
 ASKED_FINDINGS = ("sha1", NONE_LISTED)
-NO_FINDINGS = ("ok", "tally", "session", "end", *ASKED_FINDINGS)
+NOT_IGNORED = "not-ignored"
+NO_FINDINGS = ("ok", "tally", "session", "end", NOT_IGNORED, *ASKED_FINDINGS)
 OF_GROUPS: Dict[str, Callable[[Reading, Group, Values], None]] = {
     "ok": Reading._take_ok, "gap": Reading._take_gap, "hole": Reading._take_hole, "disorder": Reading._take_disorder,
     "tally": Reading._take_tally,
@@ -382,5 +394,5 @@ OF_GROUPS: Dict[str, Callable[[Reading, Group, Values], None]] = {
 STRAYS = ("unlisted", "refused", "spoilt")
 OTHERS: Dict[str, Callable[[Reading, Values], None]] = {
     "session": Reading._take_session, "early": Reading._take_early, "beyond": Reading._take_beyond, "tail": Reading._take_tail,
-    "blocks": Reading._take_blocks, "damaged": Reading._take_damaged, "torn": Reading._take_torn, "end": Reading._take_end,
+    "blocks": Reading._take_blocks, NOT_IGNORED: Reading._take_not_ignored, "damaged": Reading._take_damaged, "torn": Reading._take_torn, "end": Reading._take_end,
 }

@@ -9,18 +9,13 @@ from __future__ import annotations
 
 import argparse
 import bisect
-from collections import Counter
 from dataclasses import dataclass
-from typing import Dict, List, Set, Tuple
+from typing import Dict
 
 from .blocks import Session
-from .claims import Claim, Claims
-from .reach import Reach
+from .claims import Claim, Claims, is_among
 from .survey import Survey
 from .words import grouped
-
-# HOSTNAME, APP-NAME and PROCID
-Names = Tuple[bytes, bytes, bytes]
 
 
 @dataclass
@@ -89,19 +84,13 @@ def ignored_words(count: int) -> str:
 def count_strangers(claims: Claims, survey: Survey) -> Dict[Session, Claimed]:
     """How many of these blocks claim each session that they claim."""
     found: Dict[Session, Claimed] = {}
-    if not len(claims):
-        return found
-    gbcs, numbers = reached(survey.reach, survey.joined)
-    for it, stored in claims:
+    for place, it, stored in claims:
         claimed = found.setdefault(it.session, Claimed())
         claimed.blocks += 1
         claimed.stored += stored
-        if it.gbc is None:
-            continue
-        names = names_of(it.session)
-        if it.gbc > gbcs[names] or it.last > numbers.get((names, it.sg, it.spri), 0):
+        if is_among(survey.late, place):
             claimed.late += 1
-        else:
+        elif it.gbc is not None:
             claimed.alone += not is_announced(it, survey)
     return found
 
@@ -111,28 +100,3 @@ def is_announced(it: Claim, survey: Survey) -> bool:
     firsts, lasts, last = survey.announced(it.session, it.sg, it.spri)
     at = bisect.bisect_right(firsts, it.last)
     return it.last <= last and not (at and lasts[at - 1] >= it.first)
-
-
-def names_of(session: Session) -> Names:
-    """What sessions of one originator share."""
-    return session.host, session.app, session.procid
-
-
-def reached(reach: Reach, joined: Set[Session]) -> Tuple[Dict[Names, int], Dict[Tuple[Names, int, int], int]]:
-    """The greatest GBC, and the last number of each group, that verified blocks of all joined sessions with the same names reach.
-
-    Which of these sessions a changed block is of isn't known: its RSID may be what was changed.
-    """
-    greatest = dict.fromkeys(joined, -1)
-    lasts: Dict[Tuple[Names, int, int], List[int]] = {}
-    for it in reach:
-        if it.session in joined:
-            lasts.setdefault((names_of(it.session), it.sg, it.spri), []).append(it.last)
-            if it.gbc is not None:
-                greatest[it.session] = max(it.gbc, greatest[it.session])
-    gbcs: Dict[Names, int] = {}
-    for session, gbc in greatest.items():
-        names = names_of(session)
-        gbcs[names] = min(gbc, gbcs.get(names, gbc))
-    sessions = Counter(map(names_of, joined))
-    return gbcs, {group: min(numbers) for group, numbers in lasts.items() if len(numbers) == sessions[group[0]]}

@@ -38,6 +38,8 @@ class Survey(ReportVisitor):
         self.unlisted = array("I")
         self.refused = array("I")
         self.spoilt = array("I")
+        # refused blocks that may be a signer's last ones, changed
+        self.late = array("I")
         self.joined: Set[Session] = set()
         self.disputed: Set[Session] = set()
         # the fingerprint of each other key than the given ones, and how many untrusted sessions state it
@@ -130,6 +132,11 @@ class Survey(ReportVisitor):
         """Takes a place."""
         self._name((place,))
         {"unlisted": self.unlisted, "refused": self.refused, "spoilt": self.spoilt}[kind].append(place)
+
+    def not_ignored(self, place: int, why: str) -> None:
+        """Keeps a block that may be its signer's last one."""
+        if why == "late":
+            self.late.append(place)
 
     def damaged(self, stretch: Damaged) -> None:
         """Keeps it."""

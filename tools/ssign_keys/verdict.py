@@ -34,7 +34,8 @@ class Facts:
     """What a verdict rests on."""
 
     program_status: int
-    """The status of `ssign review`, where it is a finding that nothing is listed, and SHA-1 too unless that is allowed."""
+    """The status of `ssign review`, where it is a finding that nothing is listed, and SHA-1 too unless that is allowed, and none that
+    a block was refused which changes nothing."""
     totals: Totals
     states: Dict[str, int]
     """How many sessions are in each state."""
@@ -87,8 +88,9 @@ class Facts:
 
     @property
     def is_ignoring(self) -> bool:
-        """Whether the review found nothing but such blocks, which are to be ignored and come after nothing that is verified."""
-        return self.are_strangers_ignored and not self.late and 0 < self.totals.findings == self.totals.refused == self.of_strangers
+        """Whether the review found nothing but such blocks, which are to be ignored."""
+        totals = self.totals
+        return self.are_strangers_ignored and not totals.not_ignored and 0 < totals.findings == totals.refused
 
     @property
     def review_status(self) -> int:
@@ -97,10 +99,9 @@ class Facts:
 
     @property
     def status(self) -> int:
-        """The status of the verdict: that of the program, lower only where it found nothing but strangers' blocks that are to be
-        ignored, and at least 1 where the manifest differs."""
-        is_lowered = self.is_ignoring and not self.totals.asked_findings
-        return at_least(0 if is_lowered else self.program_status, self.manifest_findings)
+        """The status of the verdict: that of the program, and 1 if refused blocks aren't to be ignored, or the manifest differs."""
+        is_found = self.totals.refused > 0 and not self.are_strangers_ignored
+        return at_least(self.program_status, is_found or self.manifest_findings)
 
 
 def at_least(status: int, found: object) -> int:

@@ -47,8 +47,8 @@ if TYPE_CHECKING:
 ONCE = "--once"
 # a report has counts, and lines of listed messages only beside others
 BRIEF = "--brief"
-# findings of a verdict that none of a review is, without these options
-SOME_LISTED, NO_SHA1 = "--some-listed", "--no-sha1"
+# findings of a verdict that none of a review is, without these options; and which refused blocks change nothing
+SOME_LISTED, NO_SHA1, IGNORE_STRANGERS = "--some-listed", "--no-sha1", "--ignore-strangers"
 # so many octets of answers are supposed besides four times those of the log
 ROOM = 1 << 24
 
@@ -101,7 +101,8 @@ class Verifier:
         self.times: Optional[Times] = None
         """The times that the messages of the log state, where they are shown."""
         # what is a finding besides
-        self._findings = [SOME_LISTED, *([] if arguments.any_order else ["--in-order"]), *([] if arguments.allow_sha1 else [NO_SHA1])]
+        self._findings = [SOME_LISTED, IGNORE_STRANGERS, *([] if arguments.any_order else ["--in-order"]),
+                          *([] if arguments.allow_sha1 else [NO_SHA1])]
         # whether the report needs no line of a listed message, but for those beside others
         self._is_brief = not (reads_lines or is_detailed(arguments) or arguments.any_order)
         # whether nothing is shown but the report as it stands, and no status rests on more

@@ -1,6 +1,7 @@
 pub mod log
 pub mod texts
 pub mod lines
+pub mod strangers
 pub mod records
 pub mod forms
 pub mod runs

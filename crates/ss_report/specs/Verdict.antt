@@ -7,7 +7,7 @@ use Rattle.ss_review.specs.declared.report.report.Report.{Report}
 use Rattle.ss_review.specs.report.Verdict.{is_none}
 use Rattle.ss_report.specs.declared.log.ending.Ending.{Ending}
 use Rattle.ss_report.specs.lines.Lines.{ReportLine, itemized, lines}
-use Rattle.ss_report.specs.lines.Settled.{is_settled}
+use Rattle.ss_report.specs.lines.Settled.{is_settled, is_settled_where}
 use Rattle.ss_report.specs.declared.verdict.verdict.Verdict.{Verdict}
 use Rattle.ss_report.specs.declared.verdict.verdict.Verdict.TheVariants as verdicts
 
@@ -30,6 +30,10 @@ end_verdict ending = verdict_of (is_clean_ending ending)
 -- clean where none of these lines leaves anything to look into
 abbrev pub lines_verdict : List ReportLine → Verdict
 lines_verdict ls = verdict_of (list_all is_settled ls)
+
+-- the same, where refused blocks may be no finding
+abbrev pub verdict_where : (ignoring : Bool) → List ReportLine → Verdict
+verdict_where ignoring ls = verdict_of (list_all (is_settled_where ignoring) ls)
 
 -- clean where no line of the report on a log with this ending leaves anything to look into
 abbrev pub report_verdict : Report → Ending → Verdict

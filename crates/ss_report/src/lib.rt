@@ -11,6 +11,7 @@ mod notation;
 mod payloads;
 mod records;
 mod runs;
+mod strangers;
 mod texts;
 mod verdict;
 

@@ -12,7 +12,7 @@ use Rattle.ss_report.specs.declared.verdict.verdict.Verdict.{Verdict}
 use Rattle.ssign.specs.GivenFiles.{Files}
 use Rattle.ssign.specs.Orders.{Ends, questions_path}
 use Rattle.ssign.specs.Outcome.{EndsOver, fresh}
-use Rattle.ssign.specs.Refusal.{is_before_questions, is_before_run, is_failed_write}
+use Rattle.ssign.specs.Refusal.{is_before_questions, is_before_run, may_have_written}
 use Rattle.ssign.specs.declared.command_line.Order.{Order}
 use Rattle.ssign.specs.declared.explanations.Tables.{Tables}
 use Rattle.ssign.specs.declared.refusal.Refusal.{Refusal}
@@ -37,7 +37,7 @@ pub ends_over : {T W : Type 0} (remaining : T → Option (List ℕ)) (contents :
     → source_of remaining old ≡ fresh known
     → Ends given made tables m order (source_of remaining old) (source_of remaining new) (sink_of contents was) (sink_of contents is) ended
     → IfErr ended (λ refusal. is_before_run refusal ≡ true → new ≡ old)
-    → IfErr ended (λ refusal. is_failed_write refusal ≡ false → is ≡ was)
+    → IfErr ended (λ refusal. may_have_written refusal ≡ false → is ≡ was)
     → (questions_path order m ≡ None → made.written ≡ given.written)
     → IfErr ended (λ refusal. is_before_questions refusal ≡ true → made.written ≡ given.written)
     → EndsOver given made tables m order known (sink_of contents was) (sink_of contents is) ended

@@ -9,7 +9,7 @@ use Rattle.ss_report.specs.runs.CounterLaws.{CountersAreTheLogs}
 use Rattle.ss_report.specs.forms.Forms.{line_as}
 use Rattle.ss_report.specs.runs.Jobs.{counting}
 use Rattle.ss_report.specs.lines.Between.{front_by, lines_between}
-use Rattle.ss_report.specs.Verdict.{lines_verdict}
+use Rattle.ss_report.specs.Verdict.{verdict_where}
 use Rattle.ss_report.specs.lines.Lines.{itemizing}
 use Rattle.ss_report.specs.declared.notation.Notation.TheVariants.{Plain}
 use Rattle.ss_answers.specs.CounterFile.{HasOnly, PartsHaveTheirCounters, part_text}
@@ -21,7 +21,7 @@ changes_nothing nothing given_back says log = record {
   output = λ form detail tail.
       ap (λ short. flat_map (line_as form) (front_by None detail says log ++ lines_between detail None None (report says log) short tail)) (nothing says log);
   verdict = λ form detail tail.
-      ap (λ short. lines_verdict (front_by None detail says log ++ lines_between (itemizing detail) None None (report says log) short tail)) (nothing says log);
+      ap (λ short. verdict_where detail.ignore_strangers (front_by None detail says log ++ lines_between (itemizing detail) None None (report says log) short tail)) (nothing says log);
   missing = given_back says log;
 }
 

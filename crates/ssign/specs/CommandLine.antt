@@ -15,7 +15,7 @@ use Rattle.ss_frame.specs.Limits.{Allowance}
 use Rattle.ss_frame.specs.declared.limits.Form.{Form}
 use Rattle.ss_frame.specs.declared.limits.Form.TheVariants.{Frames, Lines}
 use Rattle.ssign.specs.declared.command_line.Order.{Order}
-use Rattle.ssign.specs.declared.command_line.Order.TheVariants.{Log, Sent, Explain}
+use Rattle.ssign.specs.declared.command_line.Order.TheVariants.{Log, Sent, Describe, Explain}
 use Rattle.ssign.specs.declared.task.Reporting.{Reporting}
 use Rattle.ssign.specs.declared.task.Task.TheVariants.{Review, Questions, Extract, Inspect, Counters, Carry}
 use Rattle.ssign.specs.declared.signing.Signing.TheVariants.{Plan, Sign}
@@ -78,6 +78,7 @@ detail_in m = record {
   not_empty = is_given m (codes "not-empty");
   some_listed = is_given m (codes "some-listed");
   no_sha1 = is_given m (codes "no-sha1");
+  ignore_strangers = is_given m (codes "ignore-strangers");
   blocks = is_given m (codes "blocks");
 }
 
@@ -126,6 +127,7 @@ name_of (Log Counters) = codes "counters"
 name_of (Log Carry) = codes "carry"
 name_of (Sent Plan) = codes "plan"
 name_of (Sent Sign) = codes "sign"
+name_of Describe = codes "describe"
 name_of Explain = codes "explain"
 
 -- its own options, in their order
@@ -134,7 +136,7 @@ own_rules (Log Review) =
     text_rule (codes "answers") ∷ text_rule (codes "ask") ∷ flag_rule (codes "findings") ∷ flag_rule (codes "json")
     ∷ flag_rule (codes "whole") ∷ flag_rule (codes "tally") ∷ flag_rule (codes "brief") ∷ flag_rule (codes "blocks")
     ∷ flag_rule (codes "in-order") ∷ flag_rule (codes "not-empty") ∷ flag_rule (codes "some-listed")
-    ∷ flag_rule (codes "no-sha1")
+    ∷ flag_rule (codes "no-sha1") ∷ flag_rule (codes "ignore-strangers")
     ∷ text_rule (codes "counters") ∷ text_rule (codes "from") ∷ text_rule (codes "pinned") ∷ flag_rule (codes "salvage")
     ∷ []
 own_rules (Log Questions) =
@@ -154,12 +156,14 @@ own_rules (Sent Plan) = text_rule (codes "resume") ∷ flag_rule (codes "ahead")
 own_rules (Sent Sign) =
     text_rule (codes "answers") ∷ text_rule (codes "resume") ∷ flag_rule (codes "wrap") ∷ flag_rule (codes "lines-out")
     ∷ []
+own_rules Describe = []
 own_rules Explain = words_rule (codes "code") ∷ flag_rule (codes "json") ∷ []
 
 -- those after them that it shares
 abbrev pub shared_rules : Kept → Order → List Rule
 shared_rules versions (Log task) = reading_rules
 shared_rules versions (Sent signing) = signing_rules versions
+shared_rules versions Describe = []
 shared_rules versions Explain = []
 
 -- of the versions of blocks it takes those that are kept
@@ -170,7 +174,8 @@ order_app versions order =
 -- what the commands ask for, in their order
 abbrev pub orders : List Order
 orders =
-    Log Review ∷ Log Questions ∷ Log Extract ∷ Log Inspect ∷ Sent Plan ∷ Sent Sign ∷ Log Counters ∷ Log Carry ∷ Explain
+    Log Review ∷ Log Questions ∷ Log Extract ∷ Log Inspect ∷ Sent Plan ∷ Sent Sign ∷ Log Counters ∷ Log Carry
+    ∷ Describe ∷ Explain
     ∷ []
 
 -- what the command of this name asks for

@@ -8,13 +8,14 @@ use Rattle.ss_frame.specs.Watched.{Source, Sink}
 use Rattle.ss_report.specs.declared.fault.RunFault.TheVariants as run
 use Rattle.ss_report.specs.declared.verdict.verdict.Verdict.{Verdict}
 use Rattle.ss_report.specs.declared.verdict.verdict.Verdict.TheVariants.{Clean, Findings}
+use Rattle.ss_signed.specs.Runs.{DescribesAll, EndsDescribing}
 use Rattle.ssign.specs.CommandLine.{is_given}
 use Rattle.ssign.specs.Explanation.{asked_of, explained}
 use Rattle.ssign.specs.AskOrder.{EndsLog, ask_path}
 use Rattle.ssign.specs.GivenFiles.{Files}
 use Rattle.ssign.specs.SigningOrder.{EndsSigning}
 use Rattle.ssign.specs.declared.command_line.Order.{Order}
-use Rattle.ssign.specs.declared.command_line.Order.TheVariants.{Log, Sent, Explain}
+use Rattle.ssign.specs.declared.command_line.Order.TheVariants.{Log, Sent, Describe, Explain}
 use Rattle.ssign.specs.declared.explanations.Tables.{Tables}
 use Rattle.ssign.specs.declared.refusal.Refusal.{Refusal}
 use Rattle.ssign.specs.declared.refusal.Refusal.TheVariants as refusals
@@ -47,6 +48,13 @@ abbrev pub EndsExplaining : Tables → ArgMatches → (was is : Sink) → Result
 EndsExplaining t m was is result =
     (json : Bool) × (json ≡ is_given m (codes "json")) × EndsTold t json (code_in m) was is result
 
+-- so ends a run over lines: with no finding, or by the fault that stopped it
+abbrev pub EndsDescribed : (before after : Source) → (was is : Sink) → Result Verdict Refusal → Type 0
+EndsDescribed before after was is (Ok Clean) = DescribesAll before after was is
+EndsDescribed before after was is (Ok Findings) = ⊥
+EndsDescribed before after was is (Err (refusals.Describing fault)) = EndsDescribing before after was is (Err fault)
+EndsDescribed before after was is (Err _) = ⊥
+
 -- where a command writes questions: the file of `--ask` of a review, if it is given
 abbrev pub questions_path : Order → ArgMatches → Option (List ℕ)
 questions_path (Log task) m = ask_path task m
@@ -59,4 +67,5 @@ abbrev pub Ends : (old new : Files) → Tables → ArgMatches → Order → (bef
 Ends old new tables m (Log task) before after was is result = EndsLog old new m task before after was is result
 Ends old new tables m (Sent signing) before after was is result =
     EndsSigning old.contents m signing before after was is result
+Ends old new tables m Describe before after was is result = EndsDescribed before after was is result
 Ends old new tables m Explain before after was is result = (after ≡ before) × EndsExplaining tables m was is result

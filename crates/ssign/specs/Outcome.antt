@@ -17,7 +17,7 @@ use Rattle.ssign.specs.CommandLine.{form_of, is_given, order_in, ssign_app, stat
 use Rattle.ssign.specs.GivenFiles.{Files}
 use Rattle.ssign.specs.Options.{AreVersions, Kept}
 use Rattle.ssign.specs.Orders.{Ends, code_in, questions_path}
-use Rattle.ssign.specs.Refusal.{is_before_questions, is_before_run, is_failed_write, refusal_code}
+use Rattle.ssign.specs.Refusal.{is_before_questions, is_before_run, may_have_written, refusal_code}
 use Rattle.ssign.specs.Remark.{IsRemark}
 use Rattle.ssign.specs.declared.command_line.Order.{Order}
 use Rattle.ssign.specs.declared.explanations.Tables.{Tables}
@@ -130,7 +130,7 @@ pub record EndsOver (old new : Files) (tables : Tables) (m : ArgMatches) (order 
     pub after : Source
     pub ends : Ends old new tables m order (fresh known) after was is ended
     pub unread : IfErr ended (λ refusal. is_before_run refusal ≡ true → after ≡ fresh known)
-    pub untouched : IfErr ended (λ refusal. is_failed_write refusal ≡ false → is ≡ was)
+    pub untouched : IfErr ended (λ refusal. may_have_written refusal ≡ false → is ≡ was)
     pub unasked : questions_path order m ≡ None → new.written ≡ old.written
     pub unopened : IfErr ended (λ refusal. is_before_questions refusal ≡ true → new.written ≡ old.written)
 

@@ -38,12 +38,14 @@ pub enum Order {
     Log(Task),
     /// A run over a log that is to be signed.
     Sent(Signing),
+    /// What signed octets say.
+    Describe,
     /// What a code means.
     Explain,
 }
 
 /// What the commands ask for, in their order.
-const ORDERS: [Order; 9] = [
+const ORDERS: [Order; 10] = [
     Order::Log(Task::Review),
     Order::Log(Task::Questions),
     Order::Log(Task::Extract),
@@ -52,6 +54,7 @@ const ORDERS: [Order; 9] = [
     Order::Sent(Signing::Sign),
     Order::Log(Task::Counters),
     Order::Log(Task::Carry),
+    Order::Describe,
     Order::Explain,
 ];
 
@@ -71,6 +74,7 @@ impl Order {
             Order::Log(Task::Carry) => commands::CARRY,
             Order::Sent(Signing::Plan) => commands::PLAN,
             Order::Sent(Signing::Sign) => commands::SIGN,
+            Order::Describe => commands::DESCRIBE,
             Order::Explain => commands::EXPLAIN,
         }
     }
@@ -404,6 +408,7 @@ fn detail_of_report(matches: &ArgMatches<'_>) -> Detail
         not_empty: is_given(matches, options::NOT_EMPTY.name),
         some_listed: is_given(matches, options::SOME_LISTED.name),
         no_sha1: is_given(matches, options::NO_SHA1.name),
+        ignore_strangers: is_given(matches, options::IGNORE_STRANGERS.name),
         blocks: is_given(matches, options::BLOCKS.name),
     }
 }

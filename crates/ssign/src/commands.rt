@@ -1,9 +1,9 @@
 //! The commands: a row for each.
 use crate::options::{
     AHEAD, ANSWERS, ANSWERS_SEALED, ASK, BLOCKS, BRIEF, CODE, COUNTERS as COUNTERS_FILE, FACTS,
-    FINDINGS, FINDINGS_PLAIN, FROM, IN_ORDER, JSON, JSON_EXPLAINED, LINES_OUT, NO_SHA1, NOT_EMPTY,
-    ONCE, OptionRow, PINNED, PLACE, PLACES, READING, RESUME, SALVAGE, SALVAGE_REPORTED, SIGNING,
-    SOME_LISTED, TALLY, UNLISTED, UNWRAP, UNWRAP_SHOWN, WHOLE, WRAP,
+    FINDINGS, FINDINGS_PLAIN, FROM, IGNORE_STRANGERS, IN_ORDER, JSON, JSON_EXPLAINED, LINES_OUT,
+    NO_SHA1, NOT_EMPTY, ONCE, OptionRow, PINNED, PLACE, PLACES, READING, RESUME, SALVAGE,
+    SALVAGE_REPORTED, SIGNING, SOME_LISTED, TALLY, UNLISTED, UNWRAP, UNWRAP_SHOWN, WHOLE, WRAP,
 };
 
 /// What the help of a command has of its own.
@@ -48,6 +48,7 @@ pub const REVIEW: CommandRow = CommandRow {
         NOT_EMPTY,
         SOME_LISTED,
         NO_SHA1,
+        IGNORE_STRANGERS,
         COUNTERS_FILE,
         FROM,
         PINNED,
@@ -122,6 +123,16 @@ pub const CARRY: CommandRow = CommandRow {
     note: Note::Usage("ssign carry [OPTIONS] < FILE"),
     options: &[ANSWERS, SALVAGE],
     shared: &READING,
+};
+
+/// `ssign describe`: what the signed octets of a block say.
+pub const DESCRIBE: CommandRow = CommandRow {
+    name: "describe",
+    about: "Writes what the octets say that a signature covers, as a JSON object for each line want OCTETS of ssign \
+        plan, or yes? PAYLOAD OCTETS SIGNATURE of ssign questions",
+    note: Note::Usage("ssign describe < FILE"),
+    options: &[],
+    shared: &[],
 };
 
 /// `ssign explain`: what a code means.

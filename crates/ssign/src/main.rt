@@ -41,7 +41,7 @@ pub use extraction::{ExtractionFault, extraction_of};
 pub use first_octets::FirstOctets;
 pub use given_files::{GivenFiles, SystemFiles};
 pub use likely_cause::{LikelyCause, run_cause, signing_cause};
-pub use orders::{run_explain, run_log, run_order, run_sent};
+pub use orders::{run_described, run_explain, run_log, run_order, run_sent};
 pub use outcome::{Notice, Outcome};
 pub use questions_fault::QuestionsFault;
 pub use refusal::Refusal;

@@ -179,6 +179,14 @@ pub const NO_SHA1: OptionRow = OptionRow {
     ..FLAG
 };
 
+/// `--ignore-strangers`: refused blocks are no finding, but for those that may be a signer's last one, changed.
+pub const IGNORE_STRANGERS: OptionRow = OptionRow {
+    name: "ignore-strangers",
+    help: "Takes no refused block for a finding by itself; also reports each one that claims a session that isn't \
+        joined, or may be its signer's last signature block, changed; these lines are findings",
+    ..FLAG
+};
+
 /// `--counters`: the file of how far the signature blocks reach (RFC 5848, sections 4.2.4 and 4.2.5).
 pub const COUNTERS: OptionRow = OptionRow {
     name: "counters",

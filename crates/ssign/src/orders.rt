@@ -3,9 +3,10 @@ ghost use Rattle.std.specs.Prelude.{◌≡◌, None, false, true, IfErr};
 ghost use Rattle.ss_frame.specs.Watched.{has_failed, source_of, sink_of};
 ghost use Rattle.ssign.specs.GivenFiles.{files_of};
 ghost use Rattle.ssign.specs.Orders.{Ends, questions_path};
-ghost use Rattle.ssign.specs.Refusal.{is_before_questions, is_before_run, is_failed_write};
+ghost use Rattle.ssign.specs.Refusal.{is_before_questions, is_before_run, may_have_written};
 
 mod asking;
+mod describing;
 mod explanation;
 mod log;
 mod prepare;
@@ -16,6 +17,7 @@ use crate::explanations::Tables;
 use crate::given_files::GivenFiles;
 use crate::refusal::Refusal;
 use clap::ArgMatches;
+pub use describing::run_described;
 pub use explanation::run_explain;
 pub use log::run_log;
 pub use signing::run_sent;
@@ -28,8 +30,8 @@ use std::io::{Read, Write};
 ///
 /// # Errors
 ///
-/// As `run_log`, `run_sent` and `run_explain`. Nothing was read if no run had begun. But for a failed write, nothing was
-/// written to the writer.
+/// As `run_log`, `run_sent`, `run_described` and `run_explain`. Nothing was read if no run had begun. But for a failed
+/// write, and for lines that were answered, nothing was written to the writer.
 pub fn run_order<F: GivenFiles, R: Read, W: Write>(
     alloc: Global,
     files: &mut F,
@@ -46,7 +48,7 @@ pub fn run_order<F: GivenFiles, R: Read, W: Write>(
         (source_of R.remaining reader.old) (source_of R.remaining reader.new)
         (sink_of W.contents writer.old) (sink_of W.contents writer.new) result }
     ensures unread { IfErr result (λ refusal. is_before_run refusal ≡ true → reader.new ≡ reader.old) }
-    ensures untouched { IfErr result (λ refusal. is_failed_write refusal ≡ false → writer.new ≡ writer.old) }
+    ensures untouched { IfErr result (λ refusal. may_have_written refusal ≡ false → writer.new ≡ writer.old) }
     // Only a review with `--ask` writes a file, and only once it has read its log.
     ensures unasked { questions_path order options.now ≡ None → files.new ≡ files.old }
     ensures unopened { IfErr result (λ refusal. is_before_questions refusal ≡ true → files.new ≡ files.old) }
@@ -54,6 +56,7 @@ pub fn run_order<F: GivenFiles, R: Read, W: Write>(
     match order {
         Order::Log(task) => run_log(alloc, files, reader, writer, task, options),
         Order::Sent(signing) => run_sent(alloc, files, reader, writer, signing, options),
+        Order::Describe => run_described(alloc, reader, writer),
         Order::Explain => run_explain(alloc, writer, tables, options),
     }
 }

@@ -9,9 +9,10 @@ use crate::task::Task;
 use ss_answers::{AnswerFault, CounterFault, PlaceFault, StartFault};
 use ss_octets::Code;
 use ss_report::RunFault;
+use ss_signed::DescribeFault;
 use ss_signing::SignFault;
 
-/// Why a command gives no verdict. But for a failed write, nothing was written then.
+/// Why a command gives no verdict. But for a failed write, and for lines that were answered, nothing was written then.
 #[derive(Clone, Copy, Debug, PartialEq, Eq)]
 pub enum Refusal {
     /// An option isn't there, or has no number in its range, which a parse by `command` doesn't let through.
@@ -52,6 +53,8 @@ pub enum Refusal {
     LateRun(RunFault),
     /// The run that signs a log failed.
     Signing(SignFault),
+    /// A run over lines stopped. Those before were answered.
+    Describing(DescribeFault),
     /// No code is asked about, and not for all of them.
     NoCode,
     /// No entry has the code that is asked about.
@@ -81,6 +84,7 @@ impl Refusal {
             Refusal::Questions(fault) => Some(fault.code()),
             Refusal::LateAnswers(fault) => Some(fault.code()),
             Refusal::Signing(fault) => Some(fault.code()),
+            Refusal::Describing(fault) => Some(fault.code()),
         }
     }
 }

@@ -189,6 +189,7 @@ pub fn remark_on<'a>(
         | Refusal::PlainFacts
         | Refusal::LateRun(_)
         | Refusal::Extraction(_)
+        | Refusal::Describing(_)
         | Refusal::NoCode
         | Refusal::NoEntry => Remark::Nothing,
     }

@@ -77,6 +77,7 @@ const EACH: Detail = Detail {
     not_empty: false,
     some_listed: false,
     no_sha1: false,
+    ignore_strangers: false,
     blocks: false,
 };
 

@@ -41,16 +41,16 @@ const TEXTS: [(&[u8], &[u8], &[u8]); 8] = [
             GVkIC0gfGFi\",\"original\":\"YWI=\"}",
     ),
     (
-        b"<110>1 - h s - - [ssign-cert VER=\"0111\" RSID=\"1\" SG=\"0\" SPRI=\"0\" TPBL=\"27\" INDEX=\"1\" FLEN=\
+        b"<110>1 - h s - - [ssign-cert VER=\"0121\" RSID=\"1\" SG=\"0\" SPRI=\"0\" TPBL=\"27\" INDEX=\"1\" FLEN=\
             \"27\" FRAG=\"2009-05-03T14:00:39Z K S0VZ\" SIGN=\"AAAA\"]",
         b"{\"line\":\"certificate\",\"place\":5,\"host\":\"h\",\"app\":\"s\",\"procid\":\"-\",\"rsid\":1,\"sg\":\
             0,\"spri\":0,\"total\":27,\"index\":1,\"length\":27,\"octets\":142,\"timestamp\":\"-\",\"marked\":1}",
         b"{\"line\":\"certificate\",\"place\":5,\"host\":\"h\",\"app\":\"s\",\"procid\":\"-\",\"rsid\":1,\"sg\":\
             0,\"spri\":0,\"total\":27,\"index\":1,\"length\":27,\"octets\":142,\"timestamp\":\"-\",\"marked\":1,\"te\
-            xt\":\"PDExMD4xIC0gaCBzIC0gLSBbc3NpZ24tY2VydCBWRVI9IjAxMTEiIFJTSUQ9IjEiIFNHPSIwIiBTUFJJPSIwIiBUUEJMPSIyN\
+            xt\":\"PDExMD4xIC0gaCBzIC0gLSBbc3NpZ24tY2VydCBWRVI9IjAxMjEiIFJTSUQ9IjEiIFNHPSIwIiBTUFJJPSIwIiBUUEJMPSIyN\
             yIgSU5ERVg9IjEiIEZMRU49IjI3IiBGUkFHPSIyMDA5LTA1LTAzVDE0OjAwOjM5WiBLIFMwVloiIFNJR049IkFBQUEiXQ==\",\"frag\
-            ment\":\"MjAwOS0wNS0wM1QxNDowMDozOVogSyBTMFZa\",\"signed\":\"PDExMD4xIC0gaCBzIC0gLSBbc3NpZ24tY2VydCBWRVI\
-            9IjAxMTEiIFJTSUQ9IjEiIFNHPSIwIiBTUFJJPSIwIiBUUEJMPSIyNyIgSU5ERVg9IjEiIEZMRU49IjI3IiBGUkFHPSIyMDA5LTA1LTA\
+            ment\":\"MjAwOS0wNS0wM1QxNDowMDozOVogSyBTMFZa\",\"ver\":\"0121\",\"signed\":\"PDExMD4xIC0gaCBzIC0gLSBbc3NpZ24tY2VydCBWRVI\
+            9IjAxMjEiIFJTSUQ9IjEiIFNHPSIwIiBTUFJJPSIwIiBUUEJMPSIyNyIgSU5ERVg9IjEiIEZMRU49IjI3IiBGUkFHPSIyMDA5LTA1LTA\
             zVDE0OjAwOjM5WiBLIFMwVloiXQ==\",\"signature\":\"AAAA\"}",
     ),
     (
@@ -62,7 +62,7 @@ const TEXTS: [(&[u8], &[u8], &[u8]); 8] = [
             \"spri\":0,\"gbc\":0,\"first\":1,\"count\":2,\"octets\":159,\"timestamp\":\"-\",\"marked\":1,\"text\":\"\
             PDExMD4xIC0gaCBzIC0gLSBbc3NpZ24gVkVSPSIwMTExIiBSU0lEPSIxIiBTRz0iMCIgU1BSST0iMCIgR0JDPSIwIiBGTU49IjEiIENO\
             VD0iMiIgSEI9InFaaytOa2NHZ1dxNlBpVnhlRkRDYkp6UTJKMD0gaEpnK1JCdzcwbTY2cmtxaCtWRXA1ZVZHY1BFPSIgU0lHTj0iQUFB\
-            QSJd\",\"signed\":\"PDExMD4xIC0gaCBzIC0gLSBbc3NpZ24gVkVSPSIwMTExIiBSU0lEPSIxIiBTRz0iMCIgU1BSST0iMCIgR0JD\
+            QSJd\",\"ver\":\"0111\",\"signed\":\"PDExMD4xIC0gaCBzIC0gLSBbc3NpZ24gVkVSPSIwMTExIiBSU0lEPSIxIiBTRz0iMCIgU1BSST0iMCIgR0JD\
             PSIwIiBGTU49IjEiIENOVD0iMiIgSEI9InFaaytOa2NHZ1dxNlBpVnhlRkRDYkp6UTJKMD0gaEpnK1JCdzcwbTY2cmtxaCtWRXA1ZVZH\
             Y1BFPSJd\",\"signature\":\"AAAA\"}",
     ),

@@ -34,6 +34,8 @@ mod shortfalls;
 #[cfg(test)]
 mod stops;
 #[cfg(test)]
+mod strangers;
+#[cfg(test)]
 mod texts;
 #[cfg(test)]
 mod wraps;

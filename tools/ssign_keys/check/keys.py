@@ -8,6 +8,7 @@ from typing import Optional, Tuple
 from .. import cli, sha1
 from ..blocks import Session
 from ..faults import Fault
+from ..frames import LONGEST
 from ..identity import Identity
 from ..program_facts import found_at, tool_facts
 from ..trust import Trust
@@ -35,7 +36,7 @@ class Keys:
 
     def verify_arguments(self) -> argparse.Namespace:
         """The arguments of a `verify` of one signed file, whose name has to be put in."""
-        words = ["verify", "--frames"]
+        words = ["verify", "--frames", f"--max-len={LONGEST}"]
         words += [f"--key={it}" for it in self.keys] + [f"--ca={it}" for it in self.cas]
         words += [f"--trust={self.trust}"] if self.trust is not None else []
         words += ["--allow-sha1"] * self.is_sha1_allowed

@@ -6,11 +6,11 @@ import contextlib
 import json
 import os
 from array import array
-from typing import AbstractSet, Any, Dict, Iterator, List, NamedTuple, Optional, Sequence, Tuple
+from typing import AbstractSet, Any, Dict, Iterator, List, NamedTuple, Optional, Sequence, Set, Tuple
 
 from ..block_facts import Notes
 from ..blocks import Session
-from ..chain.link import stated_in
+from ..chain.link import Stated, stated_in
 from ..commands import BUDGET
 from ..defaults import longest
 from ..faults import Fault
@@ -58,35 +58,36 @@ class Judged(NamedTuple):
 
 
 class Firsts(ReportVisitor):
-    """Finds in a report where the messages with the number 1 stand, whose key its one session has, or why none is trusted."""
+    """Finds in a report where the messages with the number 1 stand, whose keys its sessions have, or why none is trusted."""
 
     def __init__(self, survey: Survey, notes: Notes) -> None:
         super().__init__(is_in_order=survey.is_in_order)
         self._notes = notes
         self._joined = survey.joined
-        self.key: Optional[str] = None
+        self.keys: Set[str] = set()
         self.why = ""
-        self.places: List[int] = []
+        self.places: Dict[int, Session] = {}
 
     def session(self, session: Session, state: str) -> None:
         """Looks up the key of a joined session."""
         facts = self._notes.of(session)
         if session in self._joined and facts is not None and facts.finding.identity is not None:
-            self.key = facts.finding.identity.fingerprint
+            self.keys.add(facts.finding.identity.fingerprint or "")
         elif facts is not None and not self.why:
             self.why = facts.finding.why
 
     def listed(self, group: Group, numbers: Sequence[int], places: Sequence[int]) -> None:
         """Keeps the place of the number 1 of a group, which comes first."""
         if numbers[0] == 1 and group.session in self._joined:
-            self.places.append(places[0])
+            self.places[places[0]] = group.session
 
 
-def link_in(message: bytes, session: Session) -> Optional[str]:
-    """The text of the chain message of a session, or None where this isn't that."""
+def link_in(message: bytes, session: Session) -> Optional[Stated]:
+    """The chain message of a file, or None where this isn't that. A later session of its signer may have signed it, where the
+    file's own had ended."""
     found = stated_in(message)
-    is_own = found is not None and (found.names, found.link.rsid) == (b" ".join(session[:3]), int(session.rsid))
-    return found.text if found is not None and is_own else None
+    is_own = found is not None and found.names == b" ".join(session[:3]) and found.link.rsid <= int(session.rsid)
+    return found if is_own else None
 
 
 def judge(judges: Judges, work: Work) -> Dict[str, Any]:
@@ -117,18 +118,24 @@ def judge(judges: Judges, work: Work) -> Dict[str, Any]:
 
 
 def of_session(reviewed: Reviewed, firsts: Firsts) -> Dict[str, Any]:
-    """The session of a file, its key and its link: none of them where it has several, because a signed file is one session."""
+    """The session of a file, its key and its link. A signed file is one session; `ssign-keys live` may have signed in it what an
+    ended one had left. None of them where there is a session of other names or another key."""
     joined = list(reviewed.survey.joined)
-    if len(joined) != 1:
+    if len({it[:3] for it in joined}) != 1 or len(firsts.keys) > 1:
         return {"session": None, "key": None, "link": None}
-    host, app, procid, rsid = joined[0]
-    names = [it.decode("latin-1") for it in (host, app, procid)]
-    texts = []
-    for place in sorted(firsts.places):
+    names = [it.decode("latin-1") for it in joined[0][:3]]
+    key = next(iter(firsts.keys), None) or None
+    links: Dict[int, Stated] = {}
+    for place, session in firsts.places.items():
         found = reviewed.inspected.find(place, LONGEST_LINK)
-        texts.append(link_in(found.text, joined[0]) if found.octets == len(found.text) else None)
-    links = [it for it in texts if it is not None]
-    return {"session": [*names, int(rsid)], "key": firsts.key, "link": links[0] if len(links) == 1 else None}
+        stated = link_in(found.text, session) if found.octets == len(found.text) else None
+        if stated is not None:
+            links[place] = stated
+    if len(joined) > 1 and list(links) != [min(firsts.places, default=0)]:
+        return {"session": None, "key": None, "link": None}
+    link = next(iter(links.values())) if len(links) == 1 else None
+    rsid = int(joined[0].rsid) if link is None else link.link.rsid
+    return {"session": [*names, rsid], "key": key, "link": None if link is None else link.text}
 
 
 class Pool:

@@ -19,7 +19,6 @@ use Rattle.ss_report.specs.declared.lines.listed.PlacesSoFar.{PlacesSoFar}
 use Rattle.ss_report.specs.log.Writing.{Writes}
 use Rattle.ss_report.specs.lines.Lines.{ReportLine, UnlistedLine, RefusedLine, EndLine, itemized, entry_line, group_lines, session_lines, damage_line, ending_lines, spoilt_place_line, tail_lines, single_lines, other_lines, lines}
 use Rattle.ss_report.specs.lines.Taken.{TakesAll}
-use Rattle.ss_report.specs.lines.Settled.{is_settled}
 use Rattle.ss_report.specs.lines.Listed.{place_in, KeepsPlace}
 use Rattle.ss_report.proofs.of_writing.Writings.{writes_nothing, writes_then}
 use Rattle.ss_report.specs.declared.log.ending.Damage.{Damage}
@@ -43,13 +42,14 @@ and_true : (a : Bool) → (a && true) ≡ a
 and_true true = refl
 and_true false = refl
 
-settled_from : (a b : Bool) (ls : List ReportLine) → TakesAll (λ before after line. after ≡ (before && is_settled line)) a b ls → b ≡ (a && list_all is_settled ls)
-settled_from a b [] taken = taken ∙ sym (and_true a)
-settled_from a b (line ∷ ls) taken =
-    settled_from taken.0 b ls taken.2 ∙ ap (λ s. s && list_all is_settled ls) taken.1 ∙ and_assoc a (is_settled line) (list_all is_settled ls)
+module _ (settled : ReportLine → Bool) where
+  settled_from : (a b : Bool) (ls : List ReportLine) → TakesAll (λ before after line. after ≡ (before && settled line)) a b ls → b ≡ (a && list_all settled ls)
+  settled_from a b [] taken = taken ∙ sym (and_true a)
+  settled_from a b (line ∷ ls) taken =
+      settled_from taken.0 b ls taken.2 ∙ ap (λ s. s && list_all settled ls) taken.1 ∙ and_assoc a (settled line) (list_all settled ls)
 
-pub all_settled : (b : Bool) (ls : List ReportLine) → TakesAll (λ before after line. after ≡ (before && is_settled line)) true b ls → b ≡ list_all is_settled ls
-all_settled b ls taken = settled_from true b ls taken
+  pub all_settled : (b : Bool) (ls : List ReportLine) → TakesAll (λ before after line. after ≡ (before && settled line)) true b ls → b ≡ list_all settled ls
+  all_settled b ls taken = settled_from true b ls taken
 
 -- ---- places
 

@@ -19,7 +19,7 @@ use Rattle.ss_report.specs.declared.lines.missing.Missing.{Missing}
 use Rattle.ss_report.specs.forms.Forms.{line_as}
 use Rattle.ss_report.specs.declared.forms.report_form.ReportForm.{ReportForm}
 use Rattle.ss_report.specs.declared.verdict.verdict.Verdict.{Verdict}
-use Rattle.ss_report.specs.Verdict.{lines_verdict}
+use Rattle.ss_report.specs.Verdict.{verdict_where}
 use Rattle.ss_report.specs.lines.Lines.{ReportLine, itemizing}
 use Rattle.ss_report.specs.lines.Between.{front_by, lines_beside, lines_between, lines_by, told_beside}
 use Rattle.ss_report.specs.lines.Front.{front_lines}
@@ -53,7 +53,7 @@ pub makes_beside : (form : ReportForm) (detail : Detail) (beside : Beside) (know
     → (bs : List LogBlock) (r : Report) (m : Option Missing) (verdict : Verdict)
     → ((report : Report) → front_lines detail bs report ≡ front_lines detail (log_blocks (blocks (notes messages))) report)
     → r ≡ report_by known says (contents (notes messages))
-    → ((d : Detail) (e : Ending) → lines_beside d r m e ≡ lines_by known d says beside messages e) → verdict ≡ lines_verdict (told_beside (itemizing detail) bs r m ending)
+    → ((d : Detail) (e : Ending) → lines_beside d r m e ≡ lines_by known d says beside messages e) → verdict ≡ verdict_where detail.ignore_strangers (told_beside (itemizing detail) bs r m ending)
     → Makes (reviewing_beside form detail beside known says) options before after (flat_map (line_as form) (told_beside detail bs r m ending)) verdict
 makes_beside form detail beside known says options before after messages ending reading no_read_failed bs r m verdict needed told same judged =
     let front : front_lines detail bs r ≡ front_by known detail says messages
@@ -65,5 +65,5 @@ makes_beside form detail beside known says options before after messages ending 
       no_read_failed = no_read_failed;
       unrefused = refl;
       output_is = ap (flat_map (line_as form)) (λ i. front i ++ same detail ending i);
-      verdict_is = judged ∙ ap lines_verdict (λ i. front i ++ same (itemizing detail) ending i);
+      verdict_is = judged ∙ ap (verdict_where detail.ignore_strangers) (λ i. front i ++ same (itemizing detail) ending i);
     }

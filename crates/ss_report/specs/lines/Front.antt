@@ -1,8 +1,9 @@
--- The lines in front of a report, where they are asked for: the blocks of the log, that a session rests on SHA-1, and
--- that nothing is listed.
-use Rattle.std.specs.Prelude.{ℕ, ◌==◌, Bool, true, false, not, ◌&&◌, if◌then◌else◌, List, [], ◌∷◌, ◌++◌, find, map}
+-- The lines in front of a report, where they are asked for: the blocks of the log, that a session rests on SHA-1, which
+-- refused blocks aren't to be ignored, and that nothing is listed.
+use Rattle.std.specs.Prelude.{◌≡◌, ℕ, Bool, true, false, ◌&&◌, if◌then◌else◌, List, [], ◌∷◌, ◌++◌, find, map}
 use Rattle.std.specs.Prelude.{Option, Some, None, option_map, filter_map, flat_map}
-use Rattle.std.specs.List.{list_any}
+use Rattle.std.specs.List.Sorted.{IsStrictlySortedBy}
+use Rattle.std.specs.Ordering.{nat_cmp}
 use Rattle.ss_block.specs.declared.hash.Alg.{Alg}
 use Rattle.ss_block.specs.declared.hash.Alg.TheVariants as algs
 use Rattle.ss_review.specs.declared.keep.log_blocks.LogBlock.{LogBlock}
@@ -14,13 +15,12 @@ use Rattle.ss_review.specs.declared.report.session_report.SessionReport.{Session
 use Rattle.ss_review.specs.report.Extract.{place_listed}
 use Rattle.ss_review.specs.report.Verdict.{is_none}
 use Rattle.ss_report.specs.declared.lines.detail.Detail.{Detail}
-use Rattle.ss_report.specs.lines.Lines.{ReportLine, BlockLine, Sha1Line, NoneListedLine}
+use Rattle.ss_report.specs.declared.lines.front.FrontMatter.{FrontMatter}
+use Rattle.ss_report.specs.declared.strangers.suspects.Suspect.{Suspect}
+use Rattle.ss_report.specs.lines.Lines.{ReportLine, BlockLine, NotIgnoredLine, Sha1Line, NoneListedLine}
+use Rattle.ss_report.specs.strangers.Strangers.{is_verified, suspects_if}
 
 -- ---- blocks
-
--- whether the block is verified, where those at these places aren't
-abbrev pub is_verified : (refused : List ℕ) → LogBlock → Bool
-is_verified refused b = not (list_any (λ p. p == b.place) refused)
 
 abbrev pub block_line : (refused : List ℕ) → LogBlock → ReportLine
 block_line refused b = BlockLine b.place (is_verified refused b) b.session b.parameters
@@ -54,6 +54,11 @@ abbrev pub sha1_lines : (no_sha1 : Bool) → (refused : List ℕ) → List LogBl
 sha1_lines false refused bs = []
 sha1_lines true refused bs = weak_lines (option_map (λ b. b.place) (find (is_weak refused) bs))
 
+-- ---- strangers
+
+abbrev pub suspect_line : Suspect → ReportLine
+suspect_line s = NotIgnoredLine s.place s.suspicion
+
 -- ---- nothing listed
 
 -- the places of the listed messages of a group, and of a session
@@ -72,4 +77,10 @@ none_lines some_listed r =
 
 abbrev pub front_lines : Detail → List LogBlock → Report → List ReportLine
 front_lines detail bs r =
-    block_lines detail.blocks r.refused bs ++ sha1_lines detail.no_sha1 r.refused bs ++ none_lines detail.some_listed r
+    block_lines detail.blocks r.refused bs ++ sha1_lines detail.no_sha1 r.refused bs
+    ++ map suspect_line (suspects_if detail.ignore_strangers bs r) ++ none_lines detail.some_listed r
+
+-- this is what they are made of, for a report with rising places
+pub record IsReady (detail : Detail) (front : FrontMatter) (r : Report) : Type 0 where
+  pub rising : IsStrictlySortedBy nat_cmp r.refused
+  pub suspects : front.suspects ≡ suspects_if detail.ignore_strangers front.blocks r

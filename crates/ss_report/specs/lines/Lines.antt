@@ -25,6 +25,7 @@ use Rattle.ss_report.specs.declared.lines.detail.Listing.{Listing}
 use Rattle.ss_report.specs.declared.lines.detail.Listing.TheVariants as listings
 use Rattle.ss_report.specs.declared.lines.order.Order.{Order}
 use Rattle.ss_report.specs.declared.lines.tally.Tally.{Tally}
+use Rattle.ss_report.specs.declared.strangers.suspects.Suspicion.{Suspicion}
 use Rattle.ss_report.specs.lines.Brief.{brief}
 use Rattle.ss_report.specs.lines.Order.{order}
 use Rattle.ss_report.specs.lines.Tally.{tally}
@@ -55,6 +56,7 @@ pub data ReportLine : Type 0 where
   TornLine : (offset : ℕ) → ReportLine
   BlockLine : (place : ℕ) → (verified : Bool) → Session → AskedParameters → ReportLine
   Sha1Line : (place : ℕ) → ReportLine
+  NotIgnoredLine : (place : ℕ) → Suspicion → ReportLine
   NoneListedLine : ReportLine
   EmptyLine : ReportLine
   EndLine : (count : ℕ) → ReportLine
@@ -67,6 +69,7 @@ alone listing = record {
   not_empty = false;
   some_listed = false;
   no_sha1 = false;
+  ignore_strangers = false;
   blocks = false;
 }
 
@@ -184,6 +187,7 @@ seen (line.DamagedCount count octets) = DamagedCountLine count octets
 seen (line.Torn offset) = TornLine offset
 seen (line.Block b verified) = BlockLine b.now.place verified b.now.session b.now.parameters
 seen (line.Sha1 place) = Sha1Line place
+seen (line.NotIgnored suspect) = NotIgnoredLine suspect.place suspect.suspicion
 seen line.NoneListed = NoneListedLine
 seen line.Empty = EmptyLine
 seen (line.End count) = EndLine count

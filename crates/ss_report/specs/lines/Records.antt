@@ -8,13 +8,15 @@ use Rattle.ss_review.specs.declared.report.session_report.SessionState.{SessionS
 use Rattle.ss_review.specs.declared.report.session_report.SessionState.TheVariants as states
 use Rattle.ss_report.specs.declared.lines.order.Order.{Order}
 use Rattle.ss_report.specs.declared.lines.tally.Tally.{Tally}
+use Rattle.ss_report.specs.declared.strangers.suspects.Suspicion.{Suspicion}
+use Rattle.ss_report.specs.declared.strangers.suspects.Suspicion.TheVariants as suspicions
 use Rattle.ss_report.specs.records.Record.{Value, Number, Word, Record, field}
 use Rattle.ss_report.specs.records.Fields.{session_fields, group_fields, cause_word, stretch_fields}
 use Rattle.ss_report.specs.lines.Lines.{ReportLine, SessionLine, OkLine, GapLine, HoleLine, TailLine, BlocksLine}
 use Rattle.ss_report.specs.lines.Lines.{EarlyLine, BeyondLine, AbsentLine, TallyLine, DisorderLine, EmptyLine}
 use Rattle.ss_report.specs.lines.Lines.{UnlistedLine, RefusedLine, SpoiltLine, UnlistedCountLine, RefusedCountLine}
 use Rattle.ss_report.specs.lines.Lines.{SpoiltCountLine, DamagedLine, DamagedCountLine, TornLine, EndLine}
-use Rattle.ss_report.specs.lines.Lines.{BlockLine, Sha1Line, NoneListedLine}
+use Rattle.ss_report.specs.lines.Lines.{BlockLine, Sha1Line, NotIgnoredLine, NoneListedLine}
 use Rattle.ss_report.specs.texts.Asked.{parameter_fields}
 
 abbrev pub state_word : SessionState → List ℕ
@@ -50,6 +52,10 @@ block_kind (parameters.Certificate alg group total index length) = codes "certif
 abbrev pub yes_or_no : Bool → List ℕ
 yes_or_no b = if b then codes "yes" else codes "no"
 
+abbrev pub suspicion_word : Suspicion → List ℕ
+suspicion_word suspicions.Unjoined = codes "unjoined"
+suspicion_word suspicions.Late = codes "late"
+
 abbrev pub kind_of : ReportLine → List ℕ
 kind_of (SessionLine s state) = codes "session"
 kind_of (OkLine s g number place) = codes "ok"
@@ -73,6 +79,7 @@ kind_of (DamagedCountLine count octets) = codes "damaged-count"
 kind_of (TornLine offset) = codes "torn"
 kind_of (BlockLine place verified s parameters) = block_kind parameters
 kind_of (Sha1Line place) = codes "sha1"
+kind_of (NotIgnoredLine place why) = codes "not-ignored"
 kind_of NoneListedLine = codes "none-listed"
 kind_of EmptyLine = codes "empty"
 kind_of (EndLine count) = codes "end"
@@ -112,6 +119,8 @@ fields_of (BlockLine place verified s parameters) =
     field (codes "place") (Number place) ++ field (codes "verified") (Word (yes_or_no verified)) ++ session_fields s
     ++ parameter_fields parameters
 fields_of (Sha1Line place) = field (codes "place") (Number place)
+fields_of (NotIgnoredLine place why) =
+    field (codes "place") (Number place) ++ field (codes "why") (Word (suspicion_word why))
 fields_of NoneListedLine = []
 fields_of EmptyLine = []
 fields_of (EndLine count) = field (codes "count") (Number count)

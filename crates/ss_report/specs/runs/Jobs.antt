@@ -22,7 +22,7 @@ use Rattle.ss_report.specs.lines.Between.{between_lines_by, front_by, lines_by, 
 use Rattle.ss_review.specs.declared.counted.counter.Counter.{Counter}
 use Rattle.ss_report.specs.texts.QuestionForms.{questions_as, questions_end}
 use Rattle.ss_report.specs.runs.Counters.{counter_lines}
-use Rattle.ss_report.specs.Verdict.{end_verdict, lines_verdict, report_verdict}
+use Rattle.ss_report.specs.Verdict.{end_verdict, verdict_where, report_verdict}
 use Rattle.ss_report.specs.runs.Extraction.{is_reviewed, messages_at, refusal, selected, selected_verdict, shown}
 use Rattle.ss_report.specs.runs.Run.{Job, Runs, nothing}
 use Rattle.ss_report.specs.declared.log.ending.Ending.{Ending}
@@ -68,7 +68,8 @@ reporting form detail known says lines = record {
   output = λ messages ending.
       flat_map (line_as form) (front_by known detail says messages ++ lines detail messages ending);
   verdict = λ messages ending.
-      lines_verdict (front_by known detail says messages ++ lines (itemizing detail) messages ending);
+      verdict_where detail.ignore_strangers
+      (front_by known detail says messages ++ lines (itemizing detail) messages ending);
   reviews = true;
   refusal = nothing;
 }

@@ -12,6 +12,7 @@ use Rattle.ss_block.specs.declared.reading.Reading.{Reading}
 use Rattle.ss_block.specs.declared.reading.Reading.TheVariants as readings
 use Rattle.ss_block.specs.Reading.{reading}
 use Rattle.ss_block.specs.Signed.{signed}
+use Rattle.ss_block.specs.Versions.{version_text}
 use Rattle.ss_wrap.specs.Wrap.{original}
 use Rattle.ss_report.specs.records.Record.{Value, Number, Word, Text, field}
 
@@ -93,6 +94,14 @@ fragment_fields (readings.Signature b) = []
 fragment_fields (readings.Certificate b) = field (codes "fragment") (encoded b.fragment)
 fragment_fields (readings.Spoilt cause) = []
 
+-- VER of a block (RFC 5848, section 4.2.1)
+abbrev pub version_fields : Reading → List (List ℕ × Value)
+version_fields readings.Plain = []
+version_fields (readings.Unparsed part pos) = []
+version_fields (readings.Signature b) = field (codes "ver") (Word (version_text b.alg))
+version_fields (readings.Certificate b) = field (codes "ver") (Word (version_text b.alg))
+version_fields (readings.Spoilt cause) = []
+
 -- what is signed of a block
 abbrev pub signed_fields : Option (List ℕ) → List (List ℕ × Value)
 signed_fields None = []
@@ -107,7 +116,7 @@ signature_fields (readings.Certificate b) = field (codes "signature") (encoded b
 signature_fields (readings.Spoilt cause) = []
 
 abbrev pub block_fields : Reading → Option (List ℕ) → List (List ℕ × Value)
-block_fields r octets = fragment_fields r ++ signed_fields octets ++ signature_fields r
+block_fields r octets = fragment_fields r ++ version_fields r ++ signed_fields octets ++ signature_fields r
 
 abbrev pub text_fields : List ℕ → List (List ℕ × Value)
 text_fields t =

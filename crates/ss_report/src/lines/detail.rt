@@ -28,6 +28,9 @@ pub struct Detail {
     /// Whether there is a finding where a verified signature block has hashes by SHA-1 (VER 0111; RFC 5848, section
     /// 4.2.1).
     pub no_sha1: bool,
+    /// Whether refused blocks are no finding, and there is one for each that isn't to be ignored: it may be the last
+    /// signature block of its signer, changed, or it claims a session that isn't joined.
+    pub ignore_strangers: bool,
     /// Whether there is a line for each block of the log, verified or not. It is no finding.
     pub blocks: bool,
 }
@@ -43,6 +46,7 @@ impl Detail {
             not_empty: false,
             some_listed: false,
             no_sha1: false,
+            ignore_strangers: false,
             blocks: false,
         }
     }

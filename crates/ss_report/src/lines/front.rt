@@ -5,32 +5,55 @@ ghost use Rattle.std.specs.List.Sorted.{IsStrictlySortedBy};
 ghost use Rattle.std.specs.Ordering.{nat_cmp};
 ghost use Rattle.ss_review.specs.report.Extract.{place_listed};
 ghost use Rattle.ss_review.specs.report.Verdict.{is_none};
-ghost use Rattle.ss_report.specs.lines.Front.{block_line, block_lines, front_lines, is_by_sha1, is_verified, is_weak};
+ghost use Rattle.ss_report.specs.lines.Front.{block_line, block_lines, front_lines, is_by_sha1, is_weak};
+ghost use Rattle.ss_report.specs.lines.Front.{IsReady, suspect_line};
 ghost use Rattle.ss_report.specs.lines.Front.{group_places, is_sha1, none_lines, session_places, sha1_lines, weak_lines};
 ghost use Rattle.ss_report.specs.lines.Taken.{TakesAll};
+ghost use Rattle.ss_report.specs.strangers.Strangers.{is_verified};
 
 use crate::lines::brief::is_listed;
 use crate::lines::detail::Detail;
 use crate::lines::line::Line;
 use crate::lines::visitor::LineVisitor;
+use crate::strangers::suspects::{Suspect, Suspects};
 use ss_block::Alg;
-use ss_review::{AskedParameters, Entry, GroupReport, LogBlock, Report, SessionReport};
+use ss_review::{AskedParameters, Entry, GroupReport, LogBlock, LogBlocks, Report, SessionReport};
 
-/// Hands on the lines in front of a report, for a log with these blocks.
+/// What the lines in front of a report are made of.
+#[derive(Drop)]
+pub(crate) struct FrontMatter {
+    /// The blocks of the log, if lines need them, and else none.
+    pub(crate) blocks: LogBlocks,
+    /// The refused blocks that aren't to be ignored, if those of strangers are, and else none.
+    pub(crate) suspects: Suspects,
+}
+
+/// Hands on the lines in front of a report.
 pub(crate) fn walk_front<S, V: LineVisitor<S>>(
     visitor: &V,
     into: &mut S,
-    blocks: &[LogBlock],
+    front: &FrontMatter,
     report: &Report,
     detail: Detail,
 )
-    ensures { IsStrictlySortedBy nat_cmp report.now.refused
-        → TakesAll (V.takes visitor.now) into.old into.new (front_lines detail blocks.now report.now) }
+    ensures { IsReady detail front.now report.now
+        → TakesAll (V.takes visitor.now) into.old into.new (front_lines detail front.now.blocks report.now) }
 {
     let refused = report.refused.as_slice();
+    let blocks = front.blocks.as_slice();
     walk_blocks(visitor, into, blocks, refused, detail.blocks);
     walk_sha1(visitor, into, blocks, refused, detail.no_sha1);
+    walk_suspects(visitor, into, front.suspects.as_slice());
     walk_none_listed(visitor, into, report, detail.some_listed);
+}
+
+/// Hands on a line for each refused block that isn't to be ignored.
+fn walk_suspects<S, V: LineVisitor<S>>(visitor: &V, into: &mut S, suspects: &[Suspect])
+    ensures { TakesAll (V.takes visitor.now) into.old into.new (map suspect_line suspects.now) }
+{
+    for suspect in suspects {
+        visitor.visit(into, Line::NotIgnored { suspect: *suspect });
+    }
 }
 
 /// Hands on a line for each block, if these are asked for.
@@ -74,7 +97,7 @@ fn walk_block<S, V: LineVisitor<S>>(visitor: &V, into: &mut S, block: &LogBlock,
 }
 
 /// Whether the block is verified, where those at these places aren't.
-fn is_verified(refused: &[u32], block: &LogBlock) -> bool
+pub(crate) fn is_verified(refused: &[u32], block: &LogBlock) -> bool
     ensures { IsStrictlySortedBy nat_cmp refused.now → result ≡ is_verified refused.now block.now }
 {
     !is_among(refused, block.place)

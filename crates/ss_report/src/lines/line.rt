@@ -1,6 +1,7 @@
 //! A line of a report.
 use crate::lines::order::Order;
 use crate::lines::tally::Tally;
+use crate::strangers::suspects::Suspect;
 use ss_block::{Group, Session, Spoil};
 use ss_review::{GroupTail, LogBlock, MissingRun, SessionState, Why};
 
@@ -124,6 +125,10 @@ pub(crate) enum Line<'r> {
     /// The place of the first verified signature block whose hashes are by SHA-1.
     Sha1 {
         place: u32,
+    },
+    /// A refused block that isn't to be ignored.
+    NotIgnored {
+        suspect: Suspect,
     },
     /// No message is listed.
     NoneListed,

@@ -3,7 +3,7 @@ ghost use Rattle.std.specs.Prelude.{◌≡◌, ◌++◌, codes};
 ghost use Rattle.ss_frame.specs.Watched.{sink_of};
 ghost use Rattle.ss_report.specs.log.Writing.{Writes};
 ghost use Rattle.ss_report.specs.lines.Lines.{seen};
-ghost use Rattle.ss_report.specs.lines.Records.{state_word, why_word, tally_fields, order_fields};
+ghost use Rattle.ss_report.specs.lines.Records.{state_word, suspicion_word, why_word, tally_fields, order_fields};
 ghost use Rattle.ss_report.specs.lines.Records.{block_kind, kind_of, fields_of, record_of, yes_or_no};
 ghost use Rattle.ss_report.specs.records.Record.{field, Number, Word};
 ghost use Rattle.ss_report.specs.records.Fields.{session_fields, group_fields};
@@ -17,6 +17,7 @@ use crate::notation::Notation;
 use crate::records::fields::{put_group, put_session, put_spoilt, put_stretch};
 use crate::records::record::{begin, end, put};
 use crate::records::value::Value;
+use crate::strangers::suspects::{Suspect, Suspicion};
 use crate::texts::question_fields::put_parameters;
 use ss_block::{Group, Session};
 use ss_frame::Watched;
@@ -59,6 +60,7 @@ fn kind_of(line: Line<'_>) -> &'static [u8]
         Line::Torn { .. } => b"torn",
         Line::Block { block, .. } => block_kind(block.parameters),
         Line::Sha1 { .. } => b"sha1",
+        Line::NotIgnored { .. } => b"not-ignored",
         Line::NoneListed => b"none-listed",
         Line::Empty => b"empty",
         Line::End { .. } => b"end",
@@ -142,6 +144,7 @@ fn put_fields<W: Write>(writer: &mut Watched<W>, notation: Notation, line: Line<
         Line::DamagedCount { count, octets } => put_stretches(writer, notation, count, octets),
         Line::Torn { offset } => put(writer, notation, b"offset", Value::Number(offset)),
         Line::Block { block, is_verified } => put_block(writer, notation, block, is_verified),
+        Line::NotIgnored { suspect } => put_suspect(writer, notation, suspect),
         Line::NoneListed => {}
         Line::Empty => {}
         Line::End { count } => put(writer, notation, b"count", Value::Number(u64::from(count))),
@@ -376,6 +379,32 @@ fn put_verified<W: Write>(writer: &mut Watched<W>, notation: Notation, is_verifi
 {
     let word = yes_or_no(is_verified);
     put(writer, notation, b"verified", Value::Word(word));
+}
+
+/// Writes the place of a refused block, and why it isn't to be ignored.
+#[tactic(auto, using(crate::proofs::of_writing::Records::fields_then))]
+fn put_suspect<W: Write>(writer: &mut Watched<W>, notation: Notation, suspect: Suspect)
+    ensures { Writes (sink_of W.contents writer.old) (sink_of W.contents writer.new) (fields_in notation
+        (field (codes "place") (Number suspect.place)
+        ++ field (codes "why") (Word (suspicion_word suspect.suspicion)))) }
+{
+    put_place(writer, notation, suspect.place);
+    put(
+        writer,
+        notation,
+        b"why",
+        Value::Word(word_of_suspicion(suspect.suspicion)),
+    );
+}
+
+/// The word of a suspicion.
+fn word_of_suspicion(suspicion: Suspicion) -> &'static [u8]
+    ensures { result.now ≡ suspicion_word suspicion }
+{
+    match suspicion {
+        Suspicion::Unjoined => b"unjoined",
+        Suspicion::Late => b"late",
+    }
 }
 
 /// The word of an answer.

@@ -2,7 +2,7 @@
 ghost use Rattle.std.specs.Prelude.{◌≡◌, ◌==◌, ◌&&◌};
 ghost use Rattle.std.specs.List.{list_all};
 ghost use Rattle.ss_report.specs.lines.Lines.{seen};
-ghost use Rattle.ss_report.specs.lines.Settled.{is_settled};
+ghost use Rattle.ss_report.specs.lines.Settled.{is_settled, is_settled_where};
 
 use crate::lines::line::Line;
 use crate::lines::tally::Tally;
@@ -10,13 +10,27 @@ use crate::lines::visitor::LineVisitor;
 use crate::verdict::joined::is_joined;
 
 /// Notes whether each line leaves nothing to look into.
-pub(crate) struct Settling;
+#[derive(Drop)]
+pub(crate) struct Settling {
+    /// Whether refused blocks are no finding.
+    pub(crate) ignoring: bool,
+}
 
 impl LineVisitor<bool> for Settling {
-    ghost takes = { λ _ before after line. after ≡ (before && is_settled line) };
+    ghost takes = { λ t before after line. after ≡ (before && is_settled_where t.ignoring line) };
 
     fn visit(&self, into: &mut bool, line: Line<'_>) {
-        *into = *into && is_settled(line);
+        *into = *into && is_settled_where(self.ignoring, line);
+    }
+}
+
+/// Whether the line leaves nothing to look into, where refused blocks may be no finding.
+fn is_settled_where(ignoring: bool, line: Line<'_>) -> bool
+    ensures { result ≡ is_settled_where ignoring (seen line.entry) }
+{
+    match line {
+        Line::Refused { .. } => ignoring,
+        _ => is_settled(line),
     }
 }
 

@@ -1,15 +1,14 @@
 //! The walk through a report, line by line, with what is missing beside it, if that is reported too.
 ghost use Rattle.std.specs.Prelude.{◌≡◌, flat_map};
 ghost use Rattle.std.specs.List.{zip};
-ghost use Rattle.std.specs.List.Sorted.{IsStrictlySortedBy};
-ghost use Rattle.std.specs.Ordering.{nat_cmp};
+ghost use Rattle.ss_report.specs.lines.Front.{IsReady};
 ghost use Rattle.ss_report.specs.lines.Taken.{TakesAll};
 ghost use Rattle.ss_report.specs.lines.Lines.{session_lines};
 ghost use Rattle.ss_report.specs.lines.Between.{group_lines_outside, lines_beside, lines_of_absent, lines_of_night};
 ghost use Rattle.ss_report.specs.lines.Between.{lines_outside, missing_lines, sessions_beside, told_beside};
 
 use crate::lines::detail::Detail;
-use crate::lines::front::walk_front;
+use crate::lines::front::{FrontMatter, walk_front};
 use crate::lines::idle::is_idle_from;
 use crate::lines::left::{walk_session_left, walk_shortfall_left};
 use crate::lines::line::Line;
@@ -20,7 +19,7 @@ use crate::lines::visitor::LineVisitor;
 use crate::log::ending::Ending;
 use ss_between::Bounds;
 use ss_block::Session;
-use ss_review::{GroupReport, LogBlock, Report, SessionReport, Shortfall};
+use ss_review::{GroupReport, Report, SessionReport, Shortfall};
 
 /// Hands on the lines of a report on a log with this end, in their order, with what is missing beside it, if that is
 /// reported too. Only the visitor may allocate.
@@ -43,17 +42,17 @@ pub(crate) fn walk_lines<S, V: LineVisitor<S>>(
 pub(crate) fn walk_told<S, V: LineVisitor<S>>(
     visitor: &V,
     into: &mut S,
-    blocks: &[LogBlock],
+    front: &FrontMatter,
     report: &Report,
     missing: &Option<Missing<'_>>,
     ending: &Ending,
     detail: Detail,
 )
-    ensures { IsStrictlySortedBy nat_cmp report.now.refused
+    ensures { IsReady detail front.now report.now
         → TakesAll (V.takes visitor.now) into.old into.new
-        (told_beside detail blocks.now report.now missing.now ending.now) }
+        (told_beside detail front.now.blocks report.now missing.now ending.now) }
 {
-    walk_front(visitor, into, blocks, report, detail);
+    walk_front(visitor, into, front, report, detail);
     walk_lines(visitor, into, report, missing, ending, detail);
 }
 

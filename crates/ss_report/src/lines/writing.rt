@@ -1,21 +1,21 @@
 //! The lines of a report, written in a form.
 ghost use Rattle.std.specs.Prelude.{◌≡◌, flat_map};
-ghost use Rattle.std.specs.List.Sorted.{IsStrictlySortedBy};
-ghost use Rattle.std.specs.Ordering.{nat_cmp};
 ghost use Rattle.ss_frame.specs.Watched.{sink_of};
 ghost use Rattle.ss_report.specs.log.Writing.{Writes};
 ghost use Rattle.ss_report.specs.forms.Forms.{line_as};
 ghost use Rattle.ss_report.specs.lines.Between.{told_beside};
+ghost use Rattle.ss_report.specs.lines.Front.{IsReady};
 
 use crate::forms::report_form::{ReportForm, write_line_as};
 use crate::lines::detail::Detail;
+use crate::lines::front::FrontMatter;
 use crate::lines::line::Line;
 use crate::lines::missing::Missing;
 use crate::lines::visitor::LineVisitor;
 use crate::lines::walk::walk_told;
 use crate::log::ending::Ending;
 use ss_frame::Watched;
-use ss_review::{LogBlock, Report};
+use ss_review::Report;
 use std::io::Write;
 
 /// Writes each line in a form.
@@ -33,25 +33,25 @@ impl<W: Write> LineVisitor<Watched<W>> for Writing {
     }
 }
 
-/// Writes a report on a log with these blocks and this ending, in a form and a detail, with what is missing beside it, if
-/// that is reported too. Nothing is allocated.
+/// Writes a report on a log with this ending, in a form and a detail, with what is missing beside it, if that is reported
+/// too. Nothing is allocated.
 pub(crate) fn write_report_as<W: Write>(
     writer: &mut Watched<W>,
-    blocks: &[LogBlock],
+    front: &FrontMatter,
     report: &Report,
     missing: &Option<Missing<'_>>,
     ending: &Ending,
     form: ReportForm,
     detail: Detail,
 )
-    ensures { IsStrictlySortedBy nat_cmp report.now.refused
+    ensures { IsReady detail front.now report.now
         → Writes (sink_of W.contents writer.old) (sink_of W.contents writer.new)
-        (flat_map (line_as form) (told_beside detail blocks.now report.now missing.now ending.now)) }
+        (flat_map (line_as form) (told_beside detail front.now.blocks report.now missing.now ending.now)) }
 {
     walk_told(
         &Writing { form },
         writer,
-        blocks,
+        front,
         report,
         missing,
         ending,

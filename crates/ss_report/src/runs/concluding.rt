@@ -1,7 +1,5 @@
 //! What a reviewer that was fed a log concludes, with what is to be reported beside the report.
 ghost use Rattle.std.specs.Prelude.{◌≡◌, ◌≢◌, ℕ, List, true, false, IfOk, IfErr};
-ghost use Rattle.std.specs.List.Sorted.{IsStrictlySortedBy};
-ghost use Rattle.std.specs.Ordering.{nat_cmp};
 ghost use Rattle.ss_frame.specs.Watched.{Source};
 ghost use Rattle.ss_review.specs.declared.questions.question.Question.{Question};
 ghost use Rattle.ss_review.specs.sessions.Verified.{answers};
@@ -10,6 +8,7 @@ ghost use Rattle.ss_review.specs.keep.Contents.{contents};
 ghost use Rattle.ss_review.specs.keep.Keeping.{Keeps};
 ghost use Rattle.ss_review.specs.keep.Notes.{notes};
 ghost use Rattle.ss_review.specs.pinned.Pinned.{report_by};
+ghost use Rattle.ss_review.specs.report.Meaning.{IsInOrder};
 ghost use Rattle.ss_report.specs.log.Log.{StopsRun};
 ghost use Rattle.ss_report.specs.runs.Run.{given};
 ghost use Rattle.ss_report.specs.lines.Between.{end_counters, lines_beside, lines_between, lines_by};
@@ -57,7 +56,7 @@ pub(crate) fn conclude<'c, J: Judge + Drop>(
         ≡ report_by (given known.entry) (answers J.trusted J.valid judge) (contents (notes messages))) }
     ensures rising { (messages : List (List ℕ))
         → Keeps reviewer (notes messages)
-        → IfOk result (λ concluded. IsStrictlySortedBy nat_cmp concluded.report.refused) }
+        → IfOk result (λ concluded. IsInOrder concluded.report) }
     ensures stops { (options : ReadOptions) (before after : Source)
         → after.failed ≡ false → IfErr result (StopsRun true options before after) }
     ensures code { beside.entry ≡ Nothing → IfErr result (λ fault. fault ≢ RunFault.Memory) }

@@ -1,7 +1,5 @@
 //! A review whose log is read once: what it asks is written, and the report once the answers are there.
 ghost use Rattle.std.specs.Prelude.{◌≡◌, ◌≢◌, ◌++◌, ◌||◌, ℕ, List, true, false, flat_map, IfOk, IfErr, MatchResult};
-ghost use Rattle.std.specs.List.Sorted.{IsStrictlySortedBy};
-ghost use Rattle.std.specs.Ordering.{nat_cmp};
 ghost use Rattle.ss_frame.specs.Watched.{Source, has_failed, source_of, sink_of};
 ghost use Rattle.ss_review.specs.declared.questions.question.Question.{Question};
 ghost use Rattle.ss_review.specs.declared.report.report.Report.{Report};
@@ -9,6 +7,7 @@ ghost use Rattle.ss_review.specs.keep.Contents.{blocks};
 ghost use Rattle.ss_review.specs.keep.Keeping.{Keeps};
 ghost use Rattle.ss_review.specs.keep.LogBlocks.{log_blocks};
 ghost use Rattle.ss_review.specs.keep.Notes.{notes};
+ghost use Rattle.ss_review.specs.report.Meaning.{IsInOrder};
 ghost use Rattle.ss_review.specs.sessions.Verified.{answers};
 ghost use Rattle.ss_report.specs.log.Fed.{FeedsLog};
 ghost use Rattle.ss_report.specs.log.Log.{StopsRun};
@@ -17,7 +16,8 @@ ghost use Rattle.ss_report.specs.runs.Opened.{HasRead};
 ghost use Rattle.ss_report.specs.runs.Run.{FailsToWrite, Job, Makes, Runs, Stops, given};
 ghost use Rattle.ss_report.specs.forms.Forms.{line_as};
 ghost use Rattle.ss_report.specs.lines.Between.{told_beside};
-ghost use Rattle.ss_report.specs.lines.Front.{front_lines};
+ghost use Rattle.ss_report.specs.lines.Front.{IsReady, front_lines};
+ghost use Rattle.ss_report.specs.strangers.Strangers.{suspects_if};
 ghost use Rattle.ss_report.specs.texts.Payloads.{AreMarks};
 ghost use Rattle.ss_report.specs.texts.QuestionForms.{asking_lines_as, questions_end};
 ghost use Rattle.ss_report.specs.declared.notation.Notation.{Notation};
@@ -32,6 +32,7 @@ ghost use Rattle.ss_report.specs.runs.Jobs.{ReviewsAs, asking_first, reviewing_b
 use crate::fault::RunFault;
 use crate::forms::report_form::ReportForm;
 use crate::lines::detail::Detail;
+use crate::lines::front::FrontMatter;
 use crate::lines::missing::Missing;
 use crate::lines::writing::write_report_as;
 use crate::log::ending::Ending;
@@ -44,6 +45,7 @@ use crate::runs::beside::Beside;
 use crate::runs::concluding::{Concluded, conclude};
 use crate::runs::outcome::end_run;
 use crate::runs::questions::{Asked, marks_for, write_asked};
+use crate::strangers::suspects::{Suspects, suspects};
 use crate::verdict::verdict::{Verdict, end_verdict, told_verdict};
 use ss_frame::Watched;
 use ss_octets::Bytes;
@@ -51,7 +53,7 @@ use ss_review::laws::counted::counted_or_missing;
 use ss_review::laws::kept::{every_block_is_told, every_number_is_told};
 use ss_review::laws::pinned::pinned_reports_are_of_logs;
 use ss_review::laws::reports::reports_list_what_is_announced;
-use ss_review::{Judge, LogBlocks, Report, Reviewer};
+use ss_review::{Judge, LogBlock, LogBlocks, Report, ReviewFault, Reviewer};
 use std::alloc::Global;
 use std::io::{Read, Write};
 
@@ -191,11 +193,11 @@ fn write_questions_end<W: Write>(writer: &mut Watched<W>, notation: Notation)
     end(writer, notation);
 }
 
-/// The report of a log, the blocks of the log, where lines need them, what is to be reported beside the report, what the
-/// log holds beside its messages, and the verdict.
+/// The report of a log, what the lines in front of it are made of, what is to be reported beside it, what the log holds
+/// beside its messages, and the verdict.
 #[derive(Drop)]
 struct Reviewed<'c> {
-    blocks: LogBlocks,
+    front: FrontMatter,
     report: Report,
     missing: Option<Missing<'c>>,
     ending: Ending,
@@ -211,10 +213,11 @@ fn write_reviewed<W: Write>(
     detail: Detail,
 ) -> Result<Verdict, RunFault>
     ensures { (job : Job) (options : ReadOptions) (before after : Source)
-        → IsStrictlySortedBy nat_cmp reviewed.entry.report.refused
+        → IsReady detail reviewed.entry.front reviewed.entry.report
         → Makes job options before after
         (flat_map (line_as form)
-        (told_beside detail reviewed.entry.blocks reviewed.entry.report reviewed.entry.missing reviewed.entry.ending))
+        (told_beside detail reviewed.entry.front.blocks reviewed.entry.report reviewed.entry.missing
+        reviewed.entry.ending))
         reviewed.entry.verdict
         → MatchResult result
         (λ told. Runs job options before after (sink_of W.contents writer.old) (sink_of W.contents writer.new) told)
@@ -223,21 +226,13 @@ fn write_reviewed<W: Write>(
 {
     let verdict = reviewed.verdict;
     let Reviewed {
-        blocks,
+        front,
         report,
         missing,
         ending,
         ..
     } = &reviewed;
-    write_report_as(
-        writer,
-        blocks.as_slice(),
-        report,
-        missing,
-        ending,
-        form,
-        detail,
-    );
+    write_report_as(writer, front, report, missing, ending, form, detail);
     drop(reviewed);
     end_run(writer, verdict)
 }
@@ -261,19 +256,21 @@ fn review_fed<'c, J: Judge + Drop>(
         → Makes (reviewing_beside form detail beside.entry (given known.entry) (answers J.trusted J.valid judge)) options
         before after
         (flat_map (line_as form)
-        (told_beside detail reviewed.blocks reviewed.report reviewed.missing reviewed.ending)) reviewed.verdict)
+        (told_beside detail reviewed.front.blocks reviewed.report reviewed.missing reviewed.ending)) reviewed.verdict)
         (StopsRun true options before after) }
-    ensures rising { (options : ReadOptions) (before after : Source)
+    ensures ready { (options : ReadOptions) (before after : Source)
         → FeedsLog options before after fed.reviewer fed.ending
-        → IfOk result (λ reviewed. IsStrictlySortedBy nat_cmp reviewed.report.refused) }
+        → IfOk result (λ reviewed. IsReady detail reviewed.front reviewed.report) }
     ensures code { beside.entry ≡ Nothing → IfErr result (λ fault. fault ≢ RunFault.Memory) }
 {
     let blocks = blocks_for(alloc, &fed.reviewer, detail)?;
     let Fed { reviewer, ending } = fed;
     let Concluded { report, missing } = conclude(alloc, reviewer, judge, known, beside)?;
-    let verdict = told_verdict(blocks.as_slice(), &report, &missing, &ending, detail);
+    let suspects = suspects_for(alloc, blocks.as_slice(), &report, detail)?;
+    let front = FrontMatter { blocks, suspects };
+    let verdict = told_verdict(&front, &report, &missing, &ending, detail);
     Ok(Reviewed {
-        blocks,
+        front,
         report,
         missing,
         ending,
@@ -300,7 +297,25 @@ fn blocks_for(alloc: Global, reviewer: &Reviewer, detail: Detail) -> Result<LogB
 
 /// Whether lines in front of a report need the blocks of its log.
 fn needs_blocks(detail: Detail) -> bool
-    ensures { result ≡ (detail.blocks || detail.no_sha1) }
+    ensures { result ≡ ((detail.blocks || detail.no_sha1) || detail.ignore_strangers) }
 {
-    detail.blocks || detail.no_sha1
+    detail.blocks || detail.no_sha1 || detail.ignore_strangers
+}
+
+/// The refused blocks that aren't to be ignored, if those of strangers are, and else none.
+fn suspects_for(
+    alloc: Global,
+    blocks: &[LogBlock],
+    report: &Report,
+    detail: Detail,
+) -> Result<Suspects, ReviewFault>
+    ensures found { IsInOrder report.now
+        → IfOk result (λ found. found ≡ suspects_if detail.ignore_strangers blocks.now report.now) }
+    ensures fault { IfErr result (λ fault. fault ≡ ReviewFault.Memory) }
+{
+    if detail.ignore_strangers {
+        Ok(suspects(alloc, blocks, report)?)
+    } else {
+        Ok(Suspects::from_vec(Vec::new(alloc)))
+    }
 }

@@ -11,12 +11,13 @@ ghost use Rattle.ss_report.specs.records.Written.{fields_in};
 ghost use Rattle.ss_report.specs.texts.Facts.{to_space, past_space, timestamp_of, is_early, has_timestamp};
 ghost use Rattle.ss_report.specs.texts.Facts.{timestamp_fields, holds_mark, mark_fields, longest_text, encoded};
 ghost use Rattle.ss_report.specs.texts.Facts.{original_fields, fragment_fields, signed_fields, signature_fields};
-ghost use Rattle.ss_report.specs.texts.Facts.{block_fields, text_fields, text_fields_if, fact_fields};
+ghost use Rattle.ss_report.specs.texts.Facts.{block_fields, text_fields, text_fields_if, fact_fields, version_fields};
 ghost use Rattle.ss_wrap.specs.Wrap.{original};
 
 use crate::notation::Notation;
 use crate::records::record::put;
 use crate::records::value::Value;
+use crate::texts::question_fields::put_version;
 use ss_block::{FullReading, Reading, may_hold_block};
 use ss_frame::Watched;
 use ss_message::Part;
@@ -234,14 +235,15 @@ fn put_original<W: Write>(
     Ok(())
 }
 
-/// Writes FRAG of a certificate block, and what is signed of a block and SIGN of it (RFC 5848, sections 4.2.8 and
-/// 5.3.2).
-#[tactic(auto, using(crate::proofs::of_writing::Records::three_fields))]
+/// Writes FRAG of a certificate block, and VER of a block, what is signed of it, and SIGN of it (RFC 5848, sections
+/// 4.2.1, 4.2.8 and 5.3.2).
+#[tactic(auto, using(crate::proofs::of_writing::Records::four_fields))]
 fn put_block<W: Write>(writer: &mut Watched<W>, notation: Notation, read: &FullReading)
     ensures { Writes (sink_of W.contents writer.old) (sink_of W.contents writer.new)
         (fields_in notation (block_fields read.now.reading read.now.signed)) }
 {
     put_fragment(writer, notation, &read.reading);
+    put_version_of(writer, notation, &read.reading);
     put_signed(writer, notation, &read.signed);
     put_signature(writer, notation, &read.reading);
 }
@@ -259,6 +261,19 @@ fn put_fragment<W: Write>(writer: &mut Watched<W>, notation: Notation, reading: 
             b"fragment",
             Value::Base64(block.fragment().as_slice()),
         );
+    }
+}
+
+/// Writes VER of a block.
+#[tactic(auto, unfolding(crate::specs::records::Written::fields_in))]
+fn put_version_of<W: Write>(writer: &mut Watched<W>, notation: Notation, reading: &Reading)
+    ensures { Writes (sink_of W.contents writer.old) (sink_of W.contents writer.new)
+        (fields_in notation (version_fields reading.now)) }
+{
+    match reading {
+        Reading::Signature(block) => put_version(writer, notation, block.header().alg),
+        Reading::Certificate(block) => put_version(writer, notation, block.header().alg),
+        Reading::Plain | Reading::Unparsed { .. } | Reading::Spoilt(_) => {}
     }
 }
 

@@ -135,7 +135,7 @@ fn put_certificate<W: Write>(
 }
 
 /// Writes ver.
-fn put_version<W: Write>(writer: &mut Watched<W>, notation: Notation, alg: Alg)
+pub(crate) fn put_version<W: Write>(writer: &mut Watched<W>, notation: Notation, alg: Alg)
     ensures { Writes (sink_of W.contents writer.old) (sink_of W.contents writer.new)
         (fields_in notation (field (codes "ver") (Word (version_text alg)))) }
 {

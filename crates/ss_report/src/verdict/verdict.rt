@@ -1,18 +1,18 @@
 //! Whether a run over a log found anything.
 ghost use Rattle.std.specs.Prelude.{◌≡◌};
-ghost use Rattle.std.specs.List.Sorted.{IsStrictlySortedBy};
-ghost use Rattle.std.specs.Ordering.{nat_cmp};
-ghost use Rattle.ss_report.specs.Verdict.{end_verdict, is_clean_tail, lines_verdict, report_verdict, verdict_of};
+ghost use Rattle.ss_report.specs.Verdict.{end_verdict, is_clean_tail, report_verdict, verdict_of, verdict_where};
+ghost use Rattle.ss_report.specs.lines.Front.{IsReady};
 ghost use Rattle.ss_report.specs.lines.Between.{told_beside};
 ghost use Rattle.ss_report.specs.lines.Lines.{itemizing};
 
 use crate::lines::detail::{Detail, Listing};
+use crate::lines::front::FrontMatter;
 use crate::lines::missing::Missing;
 use crate::lines::settled::Settling;
 use crate::lines::walk::{walk_lines, walk_told};
 use crate::log::ending::Ending;
 use ss_frame::Tail;
-use ss_review::{LogBlock, Report};
+use ss_review::Report;
 
 /// Whether a log leaves anything to look into.
 #[derive(Clone, Copy, Debug, PartialEq, Eq)]
@@ -49,28 +49,33 @@ pub(crate) fn report_verdict(report: &Report, ending: &Ending) -> Verdict
 {
     let mut settled = true;
     let each = Detail::of(Listing::Itemized);
-    walk_lines(&Settling, &mut settled, report, &None, ending, each);
+    let settling = Settling { ignoring: false };
+    walk_lines(&settling, &mut settled, report, &None, ending, each);
     verdict_of(settled)
 }
 
-/// Whether no line of a report on a log with these blocks and this ending leaves anything to look into, of those with
-/// each item and these findings, and none of what is missing beside it, if that is reported too.
+/// Whether no line of a report on a log with this ending leaves anything to look into, of those with each item and these
+/// findings, and none of what is missing beside it, if that is reported too.
 pub(crate) fn told_verdict(
-    blocks: &[LogBlock],
+    front: &FrontMatter,
     report: &Report,
     missing: &Option<Missing<'_>>,
     ending: &Ending,
     detail: Detail,
 ) -> Verdict
-    ensures { IsStrictlySortedBy nat_cmp report.now.refused
-        → result ≡ lines_verdict (told_beside (itemizing detail) blocks.now report.now missing.now ending.now) }
+    ensures { IsReady detail front.now report.now
+        → result ≡ verdict_where detail.ignore_strangers
+        (told_beside (itemizing detail) front.now.blocks report.now missing.now ending.now) }
 {
     let mut settled = true;
     let each = detail.itemized();
+    let settling = Settling {
+        ignoring: detail.ignore_strangers,
+    };
     walk_told(
-        &Settling,
+        &settling,
         &mut settled,
-        blocks,
+        front,
         report,
         missing,
         ending,

@@ -2,7 +2,7 @@
 use super::Explanation;
 
 /// Words of a verdict, and lines of a report.
-pub static LINES: [Explanation; 30] = [
+pub static LINES: [Explanation; 28] = [
     Explanation {
         code: "verified",
         text: "Of a block: its session is joined, and its own signature is valid under the session's payload. Only \
@@ -122,7 +122,7 @@ pub static LINES: [Explanation; 30] = [
         text: "This block is unverified: its session isn't joined, or its own signature isn't valid under the \
             session's payload. Look at the state of the session first. If that is joined, the block was changed, or \
             the answers file lacks its yes line. With --pinned it may also be a certificate block with another payload \
-            than the known one.",
+            than the known one. With --ignore-strangers this line is no finding: not-ignored lines are.",
     },
     Explanation {
         code: "spoilt",
@@ -188,21 +188,11 @@ pub static LINES: [Explanation; 30] = [
             sender sign with VER 0121, which is SHA-256.",
     },
     Explanation {
-        code: "none-listed",
-        text: "Only ssign review --some-listed writes this line, in front of the report. No message of the log is \
-            listed, so nothing is shown to be authentic. See whether the answers are those of this log, and look at \
-            the state of each session. With --from, a night in which nothing was sent looks the same.",
-    },
-    Explanation {
-        code: "empty",
-        text: "Only ssign review --not-empty writes this line. The log has no message. Nothing was stored, everything \
-            was removed, or another file was given. See whether the sender sent anything, and give its counters with \
-            --counters.",
-    },
-    Explanation {
-        code: "end",
-        text: "Always the last line: how many messages were read, blocks included; of ssign counters, how many lines \
-            count stand before it; of the questions of ssign review --ask, the word alone. Output without this line is \
-            incomplete: don't use it.",
+        code: "not-ignored",
+        text: "Only ssign review --ignore-strangers writes this line, in front of the report, for a refused block that \
+            is a finding even so. unjoined: the session that it claims isn't joined, so look at its state. late: it \
+            may be its signer's last signature block, changed, because some joined session with its HOSTNAME, APP-NAME \
+            and PROCID isn't verified up to its GBC or its last number. Give the counters of the sender with \
+            --counters: they show what is missing.",
     },
 ];

@@ -2,7 +2,7 @@
 use super::Explanation;
 
 /// The numbers that a refusal prints.
-pub static REFUSALS: [Explanation; 37] = [
+pub static REFUSALS: [Explanation; 38] = [
     Explanation {
         code: "F1",
         text: "F1 OFFSET: the octet there can't stand in the length of a frame. A length begins with 1 to 9, goes on \
@@ -66,6 +66,12 @@ pub static REFUSALS: [Explanation; 37] = [
             is full, for example, or whoever reads the pipe has ended. No report was written. The file may hold the \
             beginning of the questions; they are whole only with their last line, end. See that the path is right and \
             that there is room, and run again.",
+    },
+    Explanation {
+        code: "D1",
+        text: "D1 LINE: this line has none of the forms want OCTETS, yes? PAYLOAD OCTETS SIGNATURE and trust? PAYLOAD, \
+            or no line feed ends it. One space stands between two fields, and OCTETS is base64. An empty line is wrong \
+            too. The lines before it were answered. Only this one is named: mend it.",
     },
     Explanation {
         code: "C1",

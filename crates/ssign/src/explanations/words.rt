@@ -1,9 +1,27 @@
-//! What the other words of the output mean: states of a session, lines of an inspection, and lines of answers, plans and
-//! questions.
+//! What the other words of the output mean: the last lines of a report, states of a session, lines of an inspection, and
+//! lines of answers, plans and questions. Lines of a report that stand here are too many for one table of the prover.
 use super::Explanation;
 
-/// States of a session, lines of an inspection, and lines of answers, plans and questions.
-pub static WORDS: [Explanation; 22] = [
+/// Last lines of a report, states of a session, lines of an inspection, and lines of answers, plans and questions.
+pub static WORDS: [Explanation; 25] = [
+    Explanation {
+        code: "none-listed",
+        text: "Only ssign review --some-listed writes this line, in front of the report. No message of the log is \
+            listed, so nothing is shown to be authentic. See whether the answers are those of this log, and look at \
+            the state of each session. With --from, a night in which nothing was sent looks the same.",
+    },
+    Explanation {
+        code: "empty",
+        text: "Only ssign review --not-empty writes this line. The log has no message. Nothing was stored, everything \
+            was removed, or another file was given. See whether the sender sent anything, and give its counters with \
+            --counters.",
+    },
+    Explanation {
+        code: "end",
+        text: "Always the last line: how many messages were read, blocks included; of ssign counters, how many lines \
+            count stand before it; of the questions of ssign review --ask, the word alone. Output without this line is \
+            incomplete: don't use it.",
+    },
     Explanation {
         code: "joined",
         text: "The payload of the session, which states its key, is whole and trusted, and certificate blocks with \

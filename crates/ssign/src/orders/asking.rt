@@ -6,7 +6,7 @@ ghost use Rattle.ss_report.specs.runs.Run.{Runs, Stops};
 ghost use Rattle.ssign.specs.AskOrder.{AsksOr, EndsAsking, asking_job, unasked};
 ghost use Rattle.ssign.specs.GivenFiles.{files_of};
 ghost use Rattle.ssign.specs.LogOrder.{asked_job};
-ghost use Rattle.ssign.specs.Refusal.{is_before_questions, is_before_run, is_failed_write};
+ghost use Rattle.ssign.specs.Refusal.{is_before_questions, is_before_run, may_have_written};
 ghost use Rattle.ssign.specs.declared.task.Task.TheVariants.{Review};
 
 use crate::given_files::GivenFiles;
@@ -47,7 +47,7 @@ pub fn run_asking<F: GivenFiles, R: Read, W: Write>(
         (source_of R.remaining reader.old) (source_of R.remaining reader.new)
         (sink_of W.contents writer.old) (sink_of W.contents writer.new) result }
     ensures unread { IfErr result (λ refusal. is_before_run refusal ≡ true → reader.new ≡ reader.old) }
-    ensures untouched { IfErr result (λ refusal. is_failed_write refusal ≡ false → writer.new ≡ writer.old) }
+    ensures untouched { IfErr result (λ refusal. may_have_written refusal ≡ false → writer.new ≡ writer.old) }
     ensures unopened { IfErr result (λ refusal. is_before_questions refusal ≡ true → files.new ≡ files.old) }
 {
     let asked = match prepare(alloc, files, Task::Review, options) {

@@ -2,7 +2,7 @@
 ghost use Rattle.std.specs.Prelude.{◌≡◌, false, IfErr};
 ghost use Rattle.ss_frame.specs.Watched.{has_failed, sink_of};
 ghost use Rattle.ssign.specs.Orders.{EndsExplaining};
-ghost use Rattle.ssign.specs.Refusal.{is_failed_write};
+ghost use Rattle.ssign.specs.Refusal.{may_have_written};
 
 use crate::command_line::{asks_for_json, given_code};
 use crate::explain::explained;
@@ -30,7 +30,7 @@ pub fn run_explain<W: Write>(
     requires { has_failed writer.old ≡ false }
     ensures ends { EndsExplaining tables.entry options.now
         (sink_of W.contents writer.old) (sink_of W.contents writer.new) result }
-    ensures untouched { IfErr result (λ refusal. is_failed_write refusal ≡ false → writer.new ≡ writer.old) }
+    ensures untouched { IfErr result (λ refusal. may_have_written refusal ≡ false → writer.new ≡ writer.old) }
 {
     let text = explained(alloc, tables, asks_for_json(options), given_code(options))?;
     match write_whole(writer, &text) {

@@ -5,7 +5,7 @@ ghost use Rattle.ss_report.specs.runs.Run.{Runs, Stops};
 ghost use Rattle.ssign.specs.AskOrder.{EndsLog, ask_path};
 ghost use Rattle.ssign.specs.GivenFiles.{files_of};
 ghost use Rattle.ssign.specs.LogOrder.{EndsAtOnce, asked_job};
-ghost use Rattle.ssign.specs.Refusal.{is_before_questions, is_before_run, is_failed_write};
+ghost use Rattle.ssign.specs.Refusal.{is_before_questions, is_before_run, may_have_written};
 
 use crate::command_line::{answers_file, ask_file};
 use crate::given_files::{GivenFiles, answers_in};
@@ -45,7 +45,7 @@ pub fn run_log<F: GivenFiles, R: Read, W: Write>(
         (source_of R.remaining reader.old) (source_of R.remaining reader.new)
         (sink_of W.contents writer.old) (sink_of W.contents writer.new) result }
     ensures unread { IfErr result (λ refusal. is_before_run refusal ≡ true → reader.new ≡ reader.old) }
-    ensures untouched { IfErr result (λ refusal. is_failed_write refusal ≡ false → writer.new ≡ writer.old) }
+    ensures untouched { IfErr result (λ refusal. may_have_written refusal ≡ false → writer.new ≡ writer.old) }
     ensures unasked { ask_path task options.now ≡ None → files.new ≡ files.old }
     ensures unopened { IfErr result (λ refusal. is_before_questions refusal ≡ true → files.new ≡ files.old) }
 {
@@ -85,7 +85,7 @@ fn run_at_once<F: GivenFiles, R: Read, W: Write>(
         (source_of R.remaining reader.old) (source_of R.remaining reader.new)
         (sink_of W.contents writer.old) (sink_of W.contents writer.new) result }
     ensures unread { IfErr result (λ refusal. is_before_run refusal ≡ true → reader.new ≡ reader.old) }
-    ensures untouched { IfErr result (λ refusal. is_failed_write refusal ≡ false → writer.new ≡ writer.old) }
+    ensures untouched { IfErr result (λ refusal. may_have_written refusal ≡ false → writer.new ≡ writer.old) }
 {
     let asked = match prepare(alloc, files, task, options) {
         Ok(asked) => asked,

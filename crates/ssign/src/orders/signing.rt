@@ -1,7 +1,7 @@
 //! A command over a log that is to be signed.
 ghost use Rattle.std.specs.Prelude.{◌≡◌, false, true, IfErr};
 ghost use Rattle.ss_frame.specs.Watched.{has_failed, source_of, sink_of};
-ghost use Rattle.ssign.specs.Refusal.{is_before_run, is_failed_write};
+ghost use Rattle.ssign.specs.Refusal.{is_before_run, may_have_written};
 ghost use Rattle.ssign.specs.SigningOrder.{EndsSigning};
 
 use crate::command_line::{answers_file, limits_of, resume_file, sending_of};
@@ -37,7 +37,7 @@ pub fn run_sent<F: GivenFiles, R: Read, W: Write>(
         (source_of R.remaining reader.old) (source_of R.remaining reader.new)
         (sink_of W.contents writer.old) (sink_of W.contents writer.new) result }
     ensures unread { IfErr result (λ refusal. is_before_run refusal ≡ true → reader.new ≡ reader.old) }
-    ensures untouched { IfErr result (λ refusal. is_failed_write refusal ≡ false → writer.new ≡ writer.old) }
+    ensures untouched { IfErr result (λ refusal. may_have_written refusal ≡ false → writer.new ≡ writer.old) }
 {
     let limits = match limits_of(options) {
         Some(limits) => limits,

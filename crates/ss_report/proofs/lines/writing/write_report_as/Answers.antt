@@ -6,4 +6,4 @@ use Rattle.ss_report.proofs.lines.writing.write_report_as.Goals as goal
 
 pub returns : goal.returns
 returns g c = λ up.
-    all_written (sink_of g.W.Write.contents) (line_as c.args.form) _ _ (told_beside c.args.detail c.args.blocks.now c.args.report.now c.args.missing.now c.args.ending.now) (c.walk_told.ensures up)
+    all_written (sink_of g.W.Write.contents) (line_as c.args.form) _ _ (told_beside c.args.detail c.args.front.now.blocks c.args.report.now c.args.missing.now c.args.ending.now) (c.walk_told.ensures up)

@@ -1,10 +1,9 @@
 use Rattle.std.proofs.Common.{◌≡◌, ℕ, List, Option, Some, None, sym, ◌∙◌, subst}
-use Rattle.std.specs.List.Sorted.{IsStrictlySortedBy}
-use Rattle.std.specs.Ordering.{nat_cmp}
 use Rattle.ss_review.specs.Laws.{ReportsAreInOrder}
 use Rattle.ss_review.specs.declared.report.report.Report.{Report}
 use Rattle.ss_review.specs.keep.Contents.{contents}
 use Rattle.ss_review.specs.pinned.Pinned.{report_by}
+use Rattle.ss_review.specs.report.Meaning.{IsInOrder}
 use Rattle.ss_review.specs.pinned.Stands.{PinnedReportsAreInOrder}
 use Rattle.ss_review.specs.keep.Notes.{notes}
 use Rattle.ss_review.specs.sessions.Verified.{Answers, answers}
@@ -36,9 +35,9 @@ returns-in_ok-beside_counted-in-Night-clause-made g c = λ messages keeps.
 
 -- such a report is in order
 in_order : ReportsAreInOrder → PinnedReportsAreInOrder → (known : Option (List (List ℕ))) (says : Answers) (messages : List (List ℕ)) (r : Report)
-    → r ≡ report_by known says (contents (notes messages)) → IsStrictlySortedBy nat_cmp r.refused
-in_order reports pinned None says messages r told = subst (λ (x : Report). IsStrictlySortedBy nat_cmp x.refused) (sym told) (reports says messages).refused
-in_order reports pinned (Some ps) says messages r told = subst (λ (x : Report). IsStrictlySortedBy nat_cmp x.refused) (sym told) (pinned says ps messages).refused
+    → r ≡ report_by known says (contents (notes messages)) → IsInOrder r
+in_order reports pinned None says messages r told = subst IsInOrder (sym told) (reports says messages)
+in_order reports pinned (Some ps) says messages r told = subst IsInOrder (sym told) (pinned says ps messages)
 
 pub returns-in_ok-report-in-Nothing-clause-rising : goal.returns-in_ok-report-in-Nothing-clause-rising
 returns-in_ok-report-in-Nothing-clause-rising g c = λ messages keeps.

@@ -42,20 +42,20 @@ reviews_if_ok form detail beside known says options before after was is (Err fau
 
 pub returns-in-Ok-clause-reviewed : goal.returns-in-Ok-clause-reviewed
 returns-in-Ok-clause-reviewed g c = λ options before after fed.
-    let told = c.write_reviewed.ensures _ _ _ _ (c.in-Ok.ensures.rising options before after fed) (c.in-Ok.ensures.made options before after fed c.args.form) in
+    let told = c.write_reviewed.ensures _ _ _ _ (c.in-Ok.ensures.ready options before after fed) (c.in-Ok.ensures.made options before after fed c.args.form) in
     reviews_if_ok c.args.form c.args.detail c.args.beside _ _ _ _ _ _ _ _ c.reports_list_what_is_announced.ensures c.pinned_reports_are_of_logs.ensures c.counted_or_missing.ensures c.every_number_is_told.ensures c.every_block_is_told.ensures (runs_if_ok _ _ _ _ _ _ _ told)
 
 pub returns-in-Ok-clause-stopped : goal.returns-in-Ok-clause-stopped
 returns-in-Ok-clause-stopped g c = λ options before after fed.
-    stops_if_err _ _ _ _ _ _ _ (c.write_reviewed.ensures _ _ _ _ (c.in-Ok.ensures.rising options before after fed) (c.in-Ok.ensures.made options before after fed c.args.form))
+    stops_if_err _ _ _ _ _ _ _ (c.write_reviewed.ensures _ _ _ _ (c.in-Ok.ensures.ready options before after fed) (c.in-Ok.ensures.made options before after fed c.args.form))
 
 pub returns-in-Ok-clause-untouched : goal.returns-in-Ok-clause-untouched
 returns-in-Ok-clause-untouched g c = λ options before after fed.
-    fails_by_write _ _ _ _ _ _ _ _ (c.write_reviewed.ensures _ _ _ _ (c.in-Ok.ensures.rising options before after fed) (c.in-Ok.ensures.made options before after fed c.args.form))
+    fails_by_write _ _ _ _ _ _ _ _ (c.write_reviewed.ensures _ _ _ _ (c.in-Ok.ensures.ready options before after fed) (c.in-Ok.ensures.made options before after fed c.args.form))
 
 pub returns-in-Ok-clause-code : goal.returns-in-Ok-clause-code
 returns-in-Ok-clause-code g c = λ options before after fed alone.
-    never_of_memory _ _ _ _ _ _ _ (c.write_reviewed.ensures _ _ _ _ (c.in-Ok.ensures.rising options before after fed) (c.in-Ok.ensures.made options before after fed c.args.form))
+    never_of_memory _ _ _ _ _ _ _ (c.write_reviewed.ensures _ _ _ _ (c.in-Ok.ensures.ready options before after fed) (c.in-Ok.ensures.made options before after fed c.args.form))
 
 pub returns-in-Err-clause-stopped : goal.returns-in-Err-clause-stopped
 returns-in-Err-clause-stopped g c = λ options before after fed.

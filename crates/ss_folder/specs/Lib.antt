@@ -1,0 +1,4 @@
+pub mod Events
+pub mod Names
+pub mod Replay
+pub mod ReplayLaws

@@ -1,0 +1,10 @@
+pub mod Chain
+pub mod Texts
+pub mod Shown
+pub mod Goes
+pub mod Written
+pub mod Replies
+pub mod Answered
+pub mod Events
+pub mod Served
+pub mod FaultCode

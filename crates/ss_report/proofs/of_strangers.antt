@@ -1,0 +1,4 @@
+pub mod SameNames
+pub mod RaisedReaches
+pub mod LeastReach
+pub mod Suspects

@@ -1,0 +1,10 @@
+pub mod Signs
+pub mod Ends
+pub mod Completions
+pub mod Placed
+pub mod Readings
+pub mod Unsigned
+pub mod Again
+pub mod Exact
+pub mod OfBlocks
+pub mod Spoken
