@@ -27,11 +27,11 @@ P
 # begin: a small repository, in which nothing is wrong
 begin() {
     rm -rf -- "$small"
-    mkdir -p -- "$small"/{docs/dev,mutants/ss_wrap,crates/{ss_wrap/{src,specs,must-fail},ss_a/src/laws,test_origins/src}}
+    mkdir -p -- "$small"/{docs/dev,mutants/ss_wrap,crates/{ss_wrap/{src/laws,specs,must-fail},ss_a/src/ones,test_origins/src}}
     printf '# Each crate\nss_wrap: itoa\nss_a: ss_wrap\ntest_origins: ss_wrap # tests\n' >"$small/crates.txt"
     printf '# Bodies\n\nIt is so.\n' >"$small/docs/dev/wrong-bodies.md"
     printf '# Edits\n\nIt is so.\n' >"$small/mutants/README.md"
-    printf '# Laws\n\n## 1. None\n\n## 2. One, or more\n\n[`one_is_one`](../../crates/ss_a/src/laws.rt)\n' >"$small/docs/dev/LAWS.md"
+    printf '# Laws\n\n## 1. None\n\n## 2. One, or more\n\n[`two_is_two`](../../crates/ss_wrap/src/laws.rt)\n' >"$small/docs/dev/LAWS.md"
     touch -- "$small"/mutants/ss_wrap/{README.md,two.edit,three.edit} "$small/crates/ss_wrap/must-fail/one.edit"
     cat >"$small/crates/ss_wrap/src/lib.rt" <<'R'
 //! A library.
@@ -84,9 +84,13 @@ R
     printf '/// Keeps.\npub trait Keeps {\n    /// Keep.\n    fn keep(&self)\n        ensures { kept self.now };\n}\n' \
         >"$small/crates/ss_wrap/src/kept.rt"
     printf '/// Four.\npub fn four() -> u64 {\n    4\n}\n' >"$small/crates/ss_wrap/src/open.rt"
-    touch -- "$small/crates/ss_wrap/specs/Ones.antt" "$small/crates/ss_a/src/laws/ones.rt"
-    printf '//! Laws.\npub mod laws;\n' >"$small/crates/ss_a/src/lib.rt"
-    printf '/// One.\npub fn one_is_one()\n    ensures { 1 ≡ 1 }\n{}\n' >"$small/crates/ss_a/src/laws.rt"
+    touch -- "$small/crates/ss_wrap/specs/Ones.antt" "$small/crates/ss_wrap/src/laws/twos.rt"
+    printf '/// Two.\npub fn two_is_two()\n    ensures { 2 ≡ 2 }\n{}\n' >"$small/crates/ss_wrap/src/laws.rt"
+    printf '//! Laws.\npub mod ones;\n' >"$small/crates/ss_a/src/lib.rt"
+    printf 'pub mod cases;\nmod own;\n\n/// One.\npub fn one_is_one<J: Seals>()\n    ensures { 1 ≡ 1 }\n{}\n' \
+        >"$small/crates/ss_a/src/ones.rt"
+    printf '/// One.\npub fn one_is_one()\n    ensures { 1 < 2 }\n{}\n' | tee "$small/crates/ss_a/src/ones/own.rt" \
+        >"$small/crates/ss_a/src/ones/cases.rt"
     printf '//! Tests.\n' >"$small/crates/test_origins/src/lib.rt"
     printf 'fn example() {\n    let one = 1;\n    let two = 2;\n}\n' >"$small/crates/test_origins/src/examples.rt"
     printf '# ss_wrap\n\nIt wraps (RFC 1).\n\n    let one = 1;\n    let two = 2;\n\n- It is [one](docs/one.md). It is.\n\n| a |\n|---|\n| b |\n' \
@@ -109,9 +113,11 @@ expect_list 'the clauses of each public function are listed' crates/ss_wrap/READ
     '| [`Two::two`](src/inner.rt) | no clause | |' \
     '| [`impl Keeps for Two`](src/inner.rt) | `held`: [`is_one`](specs/Ones.antt) | |' \
     '| [`Keeps::keep`](src/kept.rt) | `ensures`: `kept self.now` | |' \
-    '| [`open::four`](src/open.rt) | no clause | |'
-expect_list 'a crate of laws has a link in place of a list' crates/ss_a/README.md \
+    '| [`open::four`](src/open.rt) | no clause | |' \
     'The laws of this crate, with their premises: [2. One, or more](../../docs/dev/LAWS.md#2-one-or-more).'
+expect_list 'the functions of a module in a module are listed if both are public' crates/ss_a/README.md \
+    '| [`ones::one_is_one`](src/ones.rt) | `ensures`: `1 ≡ 1` |' \
+    '| [`ones::cases::one_is_one`](src/ones/cases.rt) | `ensures`: `1 < 2` |'
 expect_list 'a crate without public functions says so' crates/test_origins/README.md 'No function of this crate is public.'
 expect_list 'the edits of each folder are listed' docs/dev/wrong-bodies.md \
     '- [Each run](../../crates/ss_wrap/must-fail), 1: `one`' '- [Apart](../../mutants/ss_wrap), 2: `three`, `two`'
@@ -167,7 +173,7 @@ finds 'an example that no test crate has' ss_wrap \
     "$readme, line 7: crates/test_origins/src/examples.rt doesn't have the example: let two = 3;"
 sed -i '/^    let/d' "$small/$readme"
 finds 'a library without an example' ss_wrap "$readme, line 11: the example has 0 lines, and not 1 to 5"
-printf 'mod more;\n' >"$small/crates/ss_a/src/more.rt"
+printf '/// More.\nfn more() -> u64 {\n    2\n}\n' >"$small/crates/ss_a/src/more.rt"
 remake
 finds 'a library of which no test crate is known' ss_a \
     'crates/ss_a/README.md, line 1: no test crate is named for the example of this library'

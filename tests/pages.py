@@ -53,7 +53,7 @@ SHORTENED = re.compile(r"\b(?:e\.g|i\.e|etc|cf|vs|p|pp|Mr|Ms|Dr)\.")
 # the end of a sentence: a mark, and what closes after it. Two points stand for what is left out.
 SENTENCE_END = re.compile(r"(?<=[.?!])(?<!\.\.)[)\"'\u201d]*\s+")
 LAWS = "docs/dev/LAWS.md"
-LAW_FILES = ("crates/*/src/laws.rt", "crates/*/src/laws/*.rt")
+LAW_FILES = ("crates/*/src/laws.rt", "crates/*/src/laws/*.rt", "crates/ss_laws/src/*.rt", "crates/ss_laws/src/*/*.rt")
 # a law, with the lines of its contract, and a statement that these name by a definition
 LAW = re.compile(r"\npub fn (\w+).*\n((?: {4}.*\n)*)")
 STATEMENT = re.compile(r"ensures(?: \w+)? \{ (\w*)")

@@ -27,6 +27,9 @@ LONGEST_TEXT = 60
 IMPORT = re.compile(r"ghost use Rattle\.(\w+)\.specs\.([\w.]+)\.\{([^}]*)\};")
 USE = re.compile(r"^pub use ([\w:]+?)::(?:\{([^}]*)\}|(\w+));", re.M)
 MODULE = re.compile(r"^pub mod (\w+);", re.M)
+PUBLIC = re.compile(r"^pub (?:const |unsafe )*(?:fn|struct|enum|trait|type) (\w+)", re.M)
+# a function with what it takes and gives
+TAKES = re.compile(r"^ *(?:pub )?(?:const |unsafe )*fn \w+(?:<[^>]*>)?\(([^)]*)\)([^\n{]*)", re.M)
 METHOD = re.compile(r"^ {4}(pub )?(?:const |unsafe )*fn (\w+)", re.M)
 BLOCK = re.compile(r"^(pub )?(trait|impl)\b([^{;]*?)\s*\{(.*?)^\}", re.M | re.S)
 CLAUSE = re.compile(r"\s*(?://[^\n]*\s*)*(requires|ensures)(?: (\w+))? \{")
@@ -191,16 +194,25 @@ def head_text(root: str, name: str) -> str:
     raise BadSource(f"crates/{name}/src has neither lib.rt nor main.rt")
 
 
+def modules_of(text: str, sources: Sequence[Source]) -> Set[str]:
+    """The modules that another crate can name: those that this text exports, and those that they export in turn."""
+    texts = {source.module: source.text for source in sources}
+    found, left = set(), MODULE.findall(text)
+    while left:
+        module = left.pop()
+        found.add(module)
+        left += [f"{module}/{it}" for it in MODULE.findall(texts.get(module, ""))]
+    return found
+
+
 def exports_of(name: str, text: str, sources: Sequence[Source]) -> Dict[str, str]:
-    """What a crate exports, each name with the beginning of its module. The program exports all that is `pub`."""
-    public = re.compile(r"^pub (?:const |unsafe )*(?:fn|struct|enum|trait|type) (\w+)", re.M)
+    """What a crate exports by a name of its own, each with the beginning of its module. The program exports all that is
+    `pub`."""
     exports = {}
     for module, names, one in USE.findall(text):
         exports.update({it.strip(): module.replace("::", "/") for it in (names or one).split(",") if it.strip()})
-    modules = MODULE.findall(text)
-    for source in sources:
-        if name == PROGRAM or source.module in modules:
-            exports.update({it: "" if name == PROGRAM else source.module for it in public.findall(source.text)})
+    if name == PROGRAM:
+        exports.update({it: "" for source in sources for it in PUBLIC.findall(source.text)})
     return exports
 
 
@@ -220,9 +232,15 @@ def rows_in(source: Source, exports: Dict[str, str], module: str) -> Iterator[Fu
 def functions_of(root: str, name: str) -> List[Tuple[Source, Function]]:
     """The public functions of a crate, each with its file."""
     sources, text = sources_of(root, name), head_text(root, name)
-    exports, modules = exports_of(name, text, sources), MODULE.findall(text)
-    return [(source, function) for source in sources
-            for function in rows_in(source, exports, f"{source.module}::" if source.module in modules else "")]
+    exports, modules = exports_of(name, text, sources), modules_of(text, sources)
+    made = []
+    for source in sources:
+        own, path = exports, ""
+        if source.module in modules:
+            own = {**exports, **dict.fromkeys(PUBLIC.findall(source.text), "")}
+            path = source.module.replace(os.sep, "::") + "::"
+        made += [(source, function) for function in rows_in(source, own, path)]
+    return made
 
 
 def code(text: str) -> str:
@@ -258,9 +276,9 @@ def has_laws(root: str, name: str) -> bool:
 
 
 def has_laws_alone(root: str, name: str) -> bool:
-    """Whether a crate has laws and no other code."""
-    names = os.listdir(os.path.join(root, "crates", name, "src"))
-    return has_laws(root, name) and set(names) <= {"laws", "laws.rt", "lib.rt"}
+    """Whether each function of a crate takes nothing and gives nothing, so that it can only state a law."""
+    found = [it for source in sources_of(root, name) for it in TAKES.findall(source.text)]
+    return bool(found) and not any(takes.strip() or "->" in gives for takes, gives in found)
 
 
 def laws_of(root: str, name: str) -> str:
@@ -277,8 +295,6 @@ def laws_of(root: str, name: str) -> str:
 def clauses_of(root: str, name: str) -> str:
     """The generated part of the README of a crate."""
     laws = laws_of(root, name) if has_laws(root, name) else ""
-    if has_laws_alone(root, name):
-        return f"{HEADING}\n\n{laws}"
     functions = functions_of(root, name)
     listed = f"{NOTE}\n" + "\n".join(table_of(functions)) + "\n" if functions else NONE
     return f"{HEADING}\n\n{listed}" + (f"\n{laws}" if laws else "")

@@ -1,3 +1,0 @@
-pub mod LostGaps
-pub mod NewestCounters
-pub mod LostLog

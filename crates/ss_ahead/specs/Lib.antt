@@ -1,3 +1,0 @@
-pub mod LostAhead
-pub mod Restarts
-pub mod LostLog

@@ -1,6 +1,0 @@
-use Rattle.ss_clean_nights.proofs.OwnCounters.{clean_logs}
-use Rattle.ss_clean_nights.proofs.laws.clean_logs_are_clean_nights.Goals as goal
-
-pub returns : goal.returns
-returns c =
-    clean_logs c.announced_are_told.ensures c.numbers_outside_are_these.ensures c.pinned_reports_are_of_logs.ensures c.announced_are_below_own_counters.ensures

@@ -1,6 +1,0 @@
-use Rattle.ss_clean_nights.proofs.OneHash.{one_hash}
-use Rattle.ss_clean_nights.proofs.laws.numbers_have_one_hash.Goals as goal
-
-pub returns : goal.returns
-returns c =
-    one_hash c.listed_are_assigned.ensures c.pinned_reports_are_of_logs.ensures c.complete_nights_have_all.ensures

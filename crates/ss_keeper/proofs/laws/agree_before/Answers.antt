@@ -1,7 +1,0 @@
-use Rattle.ss_nights.proofs.NightBlocks.{all_in_range}
-use Rattle.ss_keeper.proofs.PremisesBefore.{agree_before}
-use Rattle.ss_keeper.proofs.laws.agree_before.Goals as goal
-
-pub returns : goal.returns
-returns c = λ says x last are leave agree night low.
-    agree_before says x (all_in_range c.blocks_are_in_range.ensures x.whole are) last leave agree night low

@@ -1,5 +1,0 @@
-use Rattle.ss_keeper.proofs.CountersSaid.{blocks_follow, numbers_follow}
-use Rattle.ss_keeper.proofs.laws.counters_say.Goals as goal
-
-pub returns : goal.returns
-returns c = λ says log s. (blocks_follow says log s, λ g. numbers_follow says log s g)

@@ -1,7 +1,0 @@
-pub mod NightCounters
-pub mod CounterRows
-pub mod OwnAnswers
-pub mod OwnRows
-pub mod EachNight
-pub mod NightBefore
-pub mod KeptTexts

@@ -1,0 +1,14 @@
+pub mod Reported
+pub mod AsSent
+pub mod Numbered
+pub mod Delivered
+pub mod Places
+pub mod NewestCounters
+pub mod BlockCounts
+pub mod NumberCounts
+pub mod EndedNumbers
+pub mod LastCounters
+pub mod CountedBlocks
+pub mod Pending
+pub mod RisingGbc
+pub mod cases

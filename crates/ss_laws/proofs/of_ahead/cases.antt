@@ -1,0 +1,4 @@
+pub mod SmallBlocks
+pub mod LostLog
+pub mod SmallCounters
+pub mod SmallPending

@@ -1,0 +1,3 @@
+pub mod OneLink
+pub mod Chains
+pub mod cases

@@ -1,0 +1,2 @@
+pub mod SmallFiles
+pub mod SmallChain

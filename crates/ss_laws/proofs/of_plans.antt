@@ -1,0 +1,12 @@
+pub mod Greatest
+pub mod SavedNumbers
+pub mod SavedLines
+pub mod SavedStarts
+pub mod ReadBack
+pub mod FileStarts
+pub mod SmallOctets
+pub mod WantedOctets
+pub mod WantedMembers
+pub mod SealedPlans
+pub mod GivenSeals
+pub mod cases

@@ -1,0 +1,2 @@
+pub mod SavedRows
+pub mod SmallPlan

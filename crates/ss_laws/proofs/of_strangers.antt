@@ -1,0 +1,14 @@
+pub mod JoinedByGiven
+pub mod ReportsAgree
+pub mod PinnedReports
+pub mod UnforgedNumbers
+pub mod MoreBlocks
+pub mod AlikeNumbers
+pub mod StrangersListings
+pub mod StrangersAlike
+pub mod Arrived
+pub mod StoredTexts
+pub mod AddedMessages
+pub mod PinnedAnswers
+pub mod PinnedListings
+pub mod cases

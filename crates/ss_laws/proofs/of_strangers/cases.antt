@@ -1,0 +1,9 @@
+pub mod StrangerRows
+pub mod SmallAttack
+pub mod SmallListing
+pub mod SmallLogs
+pub mod SmallHashes
+pub mod SmallUnforged
+pub mod SmallUntrusted
+pub mod SmallForged
+pub mod SmallAnswers

@@ -1,0 +1,2 @@
+pub mod LostLog
+pub mod SmallPending

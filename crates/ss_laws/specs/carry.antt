@@ -1,0 +1,9 @@
+pub mod Nights
+pub mod NightLaws
+pub mod Together
+pub mod Reports
+pub mod CarriedNights
+pub mod NightCounters
+pub mod OwnAnswers
+pub mod EachNight
+pub mod cases

@@ -1,0 +1,5 @@
+pub mod NightRows
+pub mod CounterRows
+pub mod OwnRows
+pub mod NightBefore
+pub mod KeptTexts

@@ -1,0 +1,4 @@
+pub mod Files
+pub mod Links
+pub mod ChainLaws
+pub mod cases

@@ -1,0 +1,10 @@
+pub mod Night
+pub mod NightLaws
+pub mod CleanLaws
+pub mod CompleteLaws
+pub mod MissingLaws
+pub mod SmallNights
+pub mod VerdictLaws
+pub mod WholeNights
+pub mod WholeRows
+pub mod cases

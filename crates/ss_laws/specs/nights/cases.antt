@@ -1,0 +1,2 @@
+pub mod NightRows
+pub mod SmallWholeNights

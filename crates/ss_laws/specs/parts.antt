@@ -1,0 +1,6 @@
+pub mod Parts
+pub mod PartLaws
+pub mod PartCounters
+pub mod WholeParts
+pub mod PinnedParts
+pub mod cases

@@ -1,0 +1,4 @@
+pub mod PartRows
+pub mod CounterRows
+pub mod MissingRows
+pub mod TextsInParts

@@ -1,0 +1,5 @@
+pub mod Known
+pub mod ReadBack
+pub mod FileStarts
+pub mod SealedPlans
+pub mod cases

@@ -1,0 +1,3 @@
+pub mod SignedOnce
+pub mod OnceAhead
+pub mod cases

@@ -1,0 +1,2 @@
+pub mod SmallRun
+pub mod SmallRunsAhead

@@ -1,0 +1,10 @@
+pub mod StateLaws
+pub mod Unforged
+pub mod PinnedReports
+pub mod UnforgedLaws
+pub mod Strangers
+pub mod AddedMessages
+pub mod NewestCounters
+pub mod PinnedAnswers
+pub mod PinnedListings
+pub mod cases

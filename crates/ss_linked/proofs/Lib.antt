@@ -1,4 +1,0 @@
-pub mod OneLink
-pub mod Chains
-pub mod SmallFiles
-pub mod SmallChain

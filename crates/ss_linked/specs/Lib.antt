@@ -1,4 +1,0 @@
-pub mod Files
-pub mod Links
-pub mod ChainLaws
-pub mod SmallChain

@@ -1,5 +1,0 @@
-use Rattle.ss_once.proofs.OnceAhead.{runs_ahead_sign_once}
-use Rattle.ss_once.proofs.laws.runs_ahead_sign_once.Goals as goal
-
-pub returns : goal.returns
-returns g c = runs_ahead_sign_once g.J.Seals.answers g.J.Seals.asked c.faults_are_of_no_message.ensures

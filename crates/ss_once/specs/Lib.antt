@@ -1,4 +1,0 @@
-pub mod SignedOnce
-pub mod OnceAhead
-pub mod SmallRun
-pub mod SmallRunsAhead

@@ -1,4 +1,0 @@
-//! What the key of a run signs, whatever came of the run.
-#![tactic(auto)]
-
-pub mod laws;

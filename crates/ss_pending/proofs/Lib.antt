@@ -1,4 +1,0 @@
-pub mod CountedBlocks
-pub mod Pending
-pub mod RisingGbc
-pub mod SmallPending

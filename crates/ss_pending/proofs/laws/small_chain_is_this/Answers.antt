@@ -1,6 +1,0 @@
-use Rattle.ss_pending.proofs.SmallPending.{small_chain}
-use Rattle.ss_pending.proofs.laws.small_chain_is_this.Goals as goal
-
-pub returns : goal.returns
-returns c =
-    small_chain c.signatures_are_read.ensures c.premises_ahead_are_met.ensures c.pending_messages_are_in_no_block.ensures c.pending_messages_are_missing.ensures

@@ -1,3 +1,0 @@
-pub mod PendingAhead
-pub mod RisingGbc
-pub mod SmallPending

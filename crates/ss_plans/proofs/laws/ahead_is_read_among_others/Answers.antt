@@ -1,5 +1,0 @@
-use Rattle.ss_plans.proofs.ReadBack.{ahead_is_read_among_others}
-use Rattle.ss_plans.proofs.laws.ahead_is_read_among_others.Goals as goal
-
-pub returns : goal.returns
-returns c = ahead_is_read_among_others c.parts_have_their_counters.ensures

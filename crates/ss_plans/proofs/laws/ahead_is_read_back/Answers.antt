@@ -1,5 +1,0 @@
-use Rattle.ss_plans.proofs.ReadBack.{ahead_is_read_back}
-use Rattle.ss_plans.proofs.laws.ahead_is_read_back.Goals as goal
-
-pub returns : goal.returns
-returns c = ahead_is_read_back c.ahead_is_read_among_others.ensures c.older_counters_change_nothing.ensures

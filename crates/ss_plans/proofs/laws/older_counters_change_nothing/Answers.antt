@@ -1,5 +1,0 @@
-use Rattle.ss_plans.proofs.ReadBack.{older_counters_change_nothing}
-use Rattle.ss_plans.proofs.laws.older_counters_change_nothing.Goals as goal
-
-pub returns : goal.returns
-returns c = older_counters_change_nothing c.ahead_is_read_among_others.ensures

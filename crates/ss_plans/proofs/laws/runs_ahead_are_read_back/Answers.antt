@@ -1,5 +1,0 @@
-use Rattle.ss_plans.proofs.ReadBack.{runs_ahead_are_read_back}
-use Rattle.ss_plans.proofs.laws.runs_ahead_are_read_back.Goals as goal
-
-pub returns : goal.returns
-returns c = runs_ahead_are_read_back c.counters_stay_in_range.ensures c.ahead_is_read_back.ensures

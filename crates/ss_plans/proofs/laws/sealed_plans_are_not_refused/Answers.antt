@@ -1,5 +1,0 @@
-use Rattle.ss_plans.proofs.SealedPlans.{refuses_no_seal_of_plans}
-use Rattle.ss_plans.proofs.laws.sealed_plans_are_not_refused.Goals as goal
-
-pub returns : goal.returns
-returns g c = λ sealer. refuses_no_seal_of_plans c.one_reading.ensures (g.J.Seals.answers sealer)

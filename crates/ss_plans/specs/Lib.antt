@@ -1,6 +1,0 @@
-pub mod Known
-pub mod ReadBack
-pub mod FileStarts
-pub mod SealedPlans
-pub mod SavedRows
-pub mod SmallPlan

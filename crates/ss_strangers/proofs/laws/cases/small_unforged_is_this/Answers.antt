@@ -1,7 +1,0 @@
-use Rattle.ss_strangers.proofs.SmallUnforged.{small_unforged}
-use Rattle.ss_strangers.proofs.laws.cases.small_unforged_is_this.Goals as goal
-
-pub returns : goal.returns
-returns c =
-    small_unforged c.readings_are_of_values.ensures c.signatures_are_read.ensures c.certificates_are_read.ensures
-    c.premises_are_met.ensures c.lost_log_is_this.ensures

@@ -1,7 +1,0 @@
-use Rattle.ss_strangers.proofs.SmallUntrusted.{small_untrusted}
-use Rattle.ss_strangers.proofs.laws.cases.small_untrusted_is_this.Goals as goal
-
-pub returns : goal.returns
-returns c =
-    small_untrusted c.readings_are_of_values.ensures c.signatures_are_read.ensures c.certificates_are_read.ensures
-    c.premises_are_met.ensures c.lost_log_is_this.ensures

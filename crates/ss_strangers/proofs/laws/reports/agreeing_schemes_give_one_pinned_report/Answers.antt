@@ -1,5 +1,0 @@
-use Rattle.ss_strangers.proofs.PinnedAnswers.{one_pinned_report}
-use Rattle.ss_strangers.proofs.laws.reports.agreeing_schemes_give_one_pinned_report.Goals as goal
-
-pub returns : goal.returns
-returns c = one_pinned_report c.logs_are_within.ensures

@@ -1,5 +1,0 @@
-use Rattle.ss_strangers.proofs.JoinedByGiven.{logs_are_within}
-use Rattle.ss_strangers.proofs.laws.states.logs_are_within.Goals as goal
-
-pub returns : goal.returns
-returns c = logs_are_within c.blocks_are_in_range.ensures

@@ -1,6 +1,0 @@
-use Rattle.ss_strangers.proofs.UnforgedChains.{lost_reported}
-use Rattle.ss_review.proofs.of_pinned.HiddenBlocks.{spoilt_text_is}
-use Rattle.ss_strangers.proofs.laws.unforged.lost_are_reported.Goals as goal
-
-pub returns : goal.returns
-returns c = lost_reported c.sent_blocks_are_numbered.ensures c.every_number_is_told.ensures (spoilt_text_is c.readings_are_of_values.ensures)

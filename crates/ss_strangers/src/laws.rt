@@ -1,8 +1,0 @@
-//! Laws of reviews by given payloads.
-
-pub mod cases;
-pub mod reports;
-pub mod states;
-pub mod strangers;
-pub mod unforged;
-pub mod untrusted;

@@ -1,3 +1,0 @@
-pub mod WholeNights
-pub mod WholeRows
-pub mod SmallNights
