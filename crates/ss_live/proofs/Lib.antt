@@ -1,2 +1,5 @@
 pub mod Going
+pub mod Calls
 pub mod Appending
+pub mod Whole
+pub mod Showing

@@ -1,10 +1,13 @@
+pub mod Settings
 pub mod Chain
 pub mod Texts
-pub mod Shown
 pub mod Goes
+pub mod Shown
+pub mod Turned
 pub mod Written
 pub mod Replies
-pub mod Answered
 pub mod Events
+pub mod Answered
 pub mod Served
+pub mod Ran
 pub mod FaultCode

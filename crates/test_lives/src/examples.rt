@@ -2,7 +2,7 @@
 use crate::lives::{engine_over, frames};
 use ss_frame::Watched;
 use ss_journal::Lossy;
-use ss_live::{answer_begun, serve_live};
+use ss_live::run_live;
 use std::test::Fail;
 use test_devices::{Paper, Pieces};
 
@@ -16,13 +16,15 @@ fn readme(rt: HostRuntime) -> Result<(), Fail> {
     let Some(mut engine) = made else {
         return Ok(());
     };
-    let seconds = 1_796_000_000;
-    let events = frames(alloc, &[b"m<13>1 - - - - - - one".as_slice(), b"c"])?;
+    let events = [
+        b"b 1796000000 -".as_slice(),
+        b"m<13>1 - - - - - - one",
+        b"c",
+    ];
+    let events = frames(alloc, &events)?;
     let mut reader = Watched::new(Pieces::new(events.as_slice(), 4_096));
     let mut writer = Watched::new(Paper::new(1024));
-    let answer = engine.begin(alloc, seconds, None)?;
-    answer_begun(alloc, &mut writer, &mut engine, answer)?;
-    serve_live(alloc, &mut reader, &mut writer, &mut engine)?;
+    run_live(alloc, &mut reader, &mut writer, &mut engine)?;
     let paper = writer.into_inner();
     assert_eq!(rt; paper.text(), b"12 b 17960000003 c 13 c 1".as_slice());
     Ok(())

@@ -1,6 +1,8 @@
-//! A test of `ss_live`: a whole life of a signer, and the next. It holds nothing else.
+//! A test of `ss_live`: a whole life of a signer, and the next, and how runs begin. It holds nothing else.
 #![tactic(auto)]
 
+#[cfg(test)]
+mod beginnings;
 #[cfg(test)]
 mod examples;
 #[cfg(test)]

@@ -2,7 +2,7 @@
 use ss_block::Head;
 use ss_frame::{Watched, put_frame};
 use ss_journal::{Journal, Lossy};
-use ss_live::{Engine, LiveFault, Settings, answer_begun, first_event, serve_live};
+use ss_live::{Engine, Settings, run_live};
 use ss_message::Field;
 use ss_octets::Bytes;
 use std::alloc::Global;
@@ -59,11 +59,10 @@ pub(crate) fn engine_over(alloc: Global, disk: Lossy) -> Result<Option<Engine<Lo
     let Some(head) = Head::new(110, host, app, procid, Field::Nil) else {
         return Ok(None);
     };
-    let settings = Settings {
-        payload: Bytes::from_vec(Vec::from_slice(alloc, b"- K MTIz")?),
-        count: 2,
-        frag: 5,
-        stem: Bytes::from_vec(Vec::from_slice(alloc, b"a")?),
+    let payload = Bytes::from_vec(Vec::from_slice(alloc, b"- K MTIz")?);
+    let stem = Bytes::from_vec(Vec::from_slice(alloc, b"a")?);
+    let Some(settings) = Settings::new(payload, 2, 5, stem) else {
+        return Ok(None);
     };
     Ok(Some(Engine::new(Journal::new(alloc, disk, head), settings)))
 }
@@ -75,21 +74,6 @@ pub(crate) fn frames(alloc: Global, events: &[&[u8]]) -> Result<Vec<u8>, Fail> {
         put_frame(&mut out, event)?;
     }
     Ok(out)
-}
-
-/// A run over these events.
-fn run(
-    alloc: Global,
-    reader: &mut Watched<Pieces<'_>>,
-    writer: &mut Watched<Paper>,
-    engine: &mut Engine<Lossy>,
-) -> Result<(), LiveFault> {
-    let Some((seconds, stamp)) = first_event(alloc, reader)? else {
-        return Ok(());
-    };
-    let answer = engine.begin(alloc, seconds, stamp)?;
-    answer_begun(alloc, writer, engine, answer)?;
-    serve_live(alloc, reader, writer, engine)
 }
 
 /// A life over this disk: what it answers to these events, and the disk that it leaves.
@@ -107,7 +91,7 @@ fn life(
     let answers = frames(alloc, answers)?;
     let mut reader = Watched::new(Pieces::new(events.as_slice(), 4_096));
     let mut writer = Watched::new(Paper::new(1024));
-    let end = run(alloc, &mut reader, &mut writer, &mut engine);
+    let end = run_live(alloc, &mut reader, &mut writer, &mut engine);
     let paper = writer.into_inner();
     assert_eq!(rt; paper.text(), answers.as_slice());
     assert!(rt; end.is_ok());
