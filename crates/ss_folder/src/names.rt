@@ -11,6 +11,23 @@ const GREATEST: u64 = 9_999_999_999;
 /// The ending of a file that is written.
 pub(crate) const OPEN: &[u8] = b"open";
 
+/// How many octets a stem has at most, so that names with it have less than 255.
+const LONGEST_STEM: usize = 200;
+
+/// Whether names may begin with it: 1 to 200 printable ASCII characters, none of them a space, a quotation mark, a backslash
+/// or a slash, and no point in front. So a name stands in a chain message as it is, and in no other folder.
+pub(crate) fn is_stem(stem: &[u8]) -> bool {
+    let Some(first) = stem.first() else {
+        return false;
+    };
+    *first != b'.' && stem.len() <= LONGEST_STEM && stem.iter().all(|octet| is_of_stem(*octet))
+}
+
+/// Whether an octet may stand in a stem.
+fn is_of_stem(octet: u8) -> bool {
+    matches!(octet, b'!'..=b'~') && !matches!(octet, b'"' | b'/' | b'\\')
+}
+
 /// The name that a file called `STEM-NAME.ENDING` uses up, with NAME in decimal, and ENDING; `None` if a file isn't called
 /// so. What follows the first point is the ending.
 pub(crate) fn name_in<'a>(stem: &[u8], called: &'a [u8]) -> Option<(u64, &'a [u8])>
