@@ -47,7 +47,9 @@ TEST_CRATES = {
     "ss_signing": "test_signings",
     "ss_journal": "test_journals",
     "ss_folder": "test_folders",
+    "ss_lines": "test_spelled",
     "ss_signed": "test_signed",
+    "ss_spelled": "test_spelled",
     "ss_live": "test_lives",
 }
 # a line, from 1, and what is wrong there
