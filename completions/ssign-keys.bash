@@ -169,6 +169,7 @@ _ssign_keys() {
     'seal --host') _ssign_keys_offer text ;;
     'seal --app') _ssign_keys_offer text ;;
     'seal --procid') _ssign_keys_offer text ;;
+    'seal --ssign') _ssign_keys_offer files ;;
     'answer --session-key') ;;
     'answer --ca') _ssign_keys_offer files ;;
     'answer --ca-anchor') _ssign_keys_offer files ;;
@@ -177,6 +178,7 @@ _ssign_keys() {
     'answer --seen') _ssign_keys_offer text ;;
     'answer --max-payload') _ssign_keys_offer text ;;
     'answer --jobs') _ssign_keys_offer text ;;
+    'answer --ssign') _ssign_keys_offer files ;;
     'explain --ssign') _ssign_keys_offer files ;;
     *) _ssign_keys_words "$command" "$current" ;;
     esac
@@ -237,14 +239,14 @@ _ssign_keys_words() {
         ;;
     seal)
         if [[ $2 == -* ]]; then
-            _ssign_keys_offer words '--help --state --new-state --each --rsid --host --app --procid'
+            _ssign_keys_offer words '--help --state --new-state --each --rsid --host --app --procid --ssign'
         else
             _ssign_keys_offer files
         fi
         ;;
     answer)
         if [[ $2 == -* ]]; then
-            _ssign_keys_offer words '--help --session-key --ca --ca-anchor --cert --trust --seen --at-signing-time --max-payload --jobs'
+            _ssign_keys_offer words '--help --session-key --ca --ca-anchor --cert --trust --seen --at-signing-time --max-payload --jobs --ssign'
         else
             _ssign_keys_offer files
         fi

@@ -201,6 +201,7 @@ complete -c ssign-keys -n '__ssign_keys_command seal' -l rsid -x -d 'refuse a bl
 complete -c ssign-keys -n '__ssign_keys_command seal' -l host -x -d 'refuse a block with another HOSTNAME'
 complete -c ssign-keys -n '__ssign_keys_command seal' -l app -x -d 'refuse a block with another APP-NAME'
 complete -c ssign-keys -n '__ssign_keys_command seal' -l procid -x -d 'refuse a block with another PROCID'
+complete -c ssign-keys -n '__ssign_keys_command seal' -l ssign -r -F -d 'the program ssign (default'
 complete -c ssign-keys -n '__ssign_keys_command seal' -F
 complete -c ssign-keys -n __ssign_keys_command -a answer -d 'Answer what `ssign questions` asks about keys and signatures'
 complete -c ssign-keys -n '__ssign_keys_command answer' -l help -s h -d 'show this help message and exit'
@@ -213,6 +214,7 @@ complete -c ssign-keys -n '__ssign_keys_command answer' -l seen -x -d 'when you 
 complete -c ssign-keys -n '__ssign_keys_command answer' -l at-signing-time -d 'judge whether a certificate has expired at the payload\'s time, which its signer states, and not now'
 complete -c ssign-keys -n '__ssign_keys_command answer' -l max-payload -x -d 'look at payloads of so many octets'
 complete -c ssign-keys -n '__ssign_keys_command answer' -l jobs -x -d 'check signatures by so many processes (default'
+complete -c ssign-keys -n '__ssign_keys_command answer' -l ssign -r -F -d 'the program ssign (default'
 complete -c ssign-keys -n '__ssign_keys_command answer' -F
 complete -c ssign-keys -n __ssign_keys_command -a explain -d 'Explain a code or a word of the output'
 complete -c ssign-keys -n '__ssign_keys_command explain' -l help -s h -d 'show this help message and exit'

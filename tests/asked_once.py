@@ -18,6 +18,8 @@ from typing import Any, BinaryIO, Iterator, List
 
 NO_LINE = ("line {} is no line `payload INDEX PAYLOAD`, `trust? INDEX` or `yes? INDEX OCTETS SIGNATURE` of ssign questions --once, "
            "as those above it are")
+# what a block has of a message: strict base64 of 32 octets
+HASH = base64.b64encode(bytes(32))
 NO_QUESTION = "line {} is no line `trust? PAYLOAD` or `yes? PAYLOAD OCTETS SIGNATURE` of ssign questions"
 
 
@@ -78,7 +80,7 @@ def long(octets: int, count: int) -> Iterator[bytes]:
     yield b"payload 0 " + base64.b64encode(b"- U " + b"A" * (octets - 4)) + b"\n"
     yield b"trust? 0\n"
     for number in range(count):
-        block = b'<110>1 - h s - - [ssign VER="0121" RSID="1" SG="0" SPRI="0" GBC="%d" FMN="1" CNT="1" HB="x"]' % number
+        block = b'<110>1 - h s - - [ssign VER="0121" RSID="1" SG="0" SPRI="0" GBC="%d" FMN="1" CNT="1" HB="%b"]' % (number, HASH)
         yield b"yes? 0 " + base64.b64encode(block) + b" AAAA\n"
 
 
@@ -91,7 +93,7 @@ def stamps(path: str, count: int) -> Iterator[bytes]:
         stamp = (first + timedelta(seconds=number)).strftime("%Y-%m-%dT%H:%M:%SZ").encode()
         yield b"payload %d " % number + base64.b64encode(stamp + b" C " + certificate) + b"\n"
         yield b"trust? %d\n" % number
-        block = b'<110>1 - gate s - - [ssign VER="0121" RSID="%d" SG="0" SPRI="0" GBC="0" FMN="1" CNT="1" HB="x"]' % number
+        block = b'<110>1 - gate s - - [ssign VER="0121" RSID="%d" SG="0" SPRI="0" GBC="0" FMN="1" CNT="1" HB="%b"]' % (number, HASH)
         yield b"yes? %d " % number + base64.b64encode(block) + b" AAAA\n"
 
 

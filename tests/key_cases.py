@@ -63,7 +63,7 @@ HIDDEN = [
     ("0111", f'<110>1 - [ssign VER="0121" RSID="1" - {SHA1_BLOCK}'),
     ("0111", f'<110>1 - h s - - [x[ssign VER="0121" a="b"]{SHA1_BLOCK}'),
     ("0111", f'<110>1 - h s - - [x[ssign VER="0121" RSID="1" a="b"]{SHA1_BLOCK}'),
-    ("0121", f'<110>1 - h s - - [ssign@1 VER="0111" a="\\\\][ssign-cert VER="]{SHA256_BLOCK}'),
+    ("0121", f'<110>1 - h s - - [ssign@1 VER="0111" a="\\\\\\][ssign-cert VER="]{SHA256_BLOCK}'),
     ("0121", f'<110>1 - h s - - [x@1 a="\\][ssign VER=\\"0111\\" RSID=\\"1\\" "]{SHA256_BLOCK}'),
     ("0111", f'<110>1 - h s - - [[x a="[["][[[ssign VER="0121" a="["]{SHA1_BLOCK}'),
     ("0121", f'<110>1 - [[ [ [[ - [x a="["]{SHA256_BLOCK}'),
@@ -240,7 +240,7 @@ def wrong_signatures(pair: Pair, longer: Pair) -> Iterator[Case]:
     yield case("no", "the signature of another block, over the other hash", octets_256, good)
     yield case("no", "other octets", octets.replace(b'RSID="1"', b'RSID="2"'), good)
     yield case("no", "an octet more", octets + b" ", good)
-    yield case("no", "another version", octets.replace(b'VER="0111"', b'VER="0121"'), good)
+    yield case("no", "a signature over the hash of another version", octets_256, signature(pair, octets_256, "0111"))
     yield case("no", "the two numbers in the other order", octets, spell(s) + spell(r))
     yield case("no", "the spelling of openssl", octets, der)
     yield case("no", "the spelling of openssl, with an octet 0 in front of r", octets,

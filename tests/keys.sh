@@ -4,6 +4,8 @@
 # what it says where something is missing.
 # shellcheck source=tests/lib.sh
 . "$(dirname -- "$0")/lib.sh"
+need_program
+export SSIGN=$program
 signed=$root/examples/signed
 timeout=$(command -v timeout)
 python=$(python3 -c 'import sys; print(sys.executable)')
@@ -146,14 +148,8 @@ judge() {
 
 # Answers: the blocks of RFC 5848, signed by somebody else's program
 cases rfc "$scratch"
-if [[ -x $program ]]; then
-    run questions <log
-    cp out questions
-else
-    # shellcheck disable=SC2016
-    echo "$name: there is no program $program, so the questions about the blocks of RFC 5848 are those of the model"
-    PYTHONPATH=$root/tests "$python" -c 'import review_runs, sys; sys.stdout.buffer.write(review_runs.run("questions", open("log", "rb").read())[1])' >questions
-fi
+run questions <log
+cp out questions
 holds 'three questions about them' test "$(wc -l <questions)" = 3
 keys answer public-key.pem <questions
 expect 'the signatures that RFC 5848 shows are valid' 0 "$(answered <questions)" ''
@@ -371,18 +367,19 @@ holds 'the program by a link to it' test "$(wc -l <out)" = 40
 # told COMMAND LINE..: what a command says of each of these lines alone, in one process: a line `0`, or the sentence.
 told() {
     "$python" -B - "$root/tools" "$@" <<'END'
-import argparse, sys
+import argparse, os, sys
 sys.path.insert(0, sys.argv[1])
 from ssign_keys import answer, seal
+from ssign_keys.describer import Describer
 from ssign_keys.faults import Fault
 from ssign_keys.keys import read_private_key
 from ssign_keys.trust import Trust
 trust = Trust.from_arguments(argparse.Namespace(keys=["one/public-key.pem"], session_key=[], ca=[], ca_anchor=[], cert=[], at_signing_time=False, max_payload=65536))
-key = read_private_key("one/private-key.pem")
+key, describer = read_private_key("one/private-key.pem"), Describer(os.environ["SSIGN"])
 for line in sys.argv[3:]:
     octets = line.encode() + b"\n"
     try:
-        list(seal.seals([octets], key) if sys.argv[2] == "seal" else answer.answers([octets], trust))
+        list(seal.seals([octets], key, describer) if sys.argv[2] == "seal" else answer.answers([octets], trust, 1, describer))
         print(0)
     except Fault as fault:
         print(fault)
@@ -424,6 +421,33 @@ refuses 'a long line of spaces' "line 1$wrong" answer one/public-key.pem < <(lon
 refuses 'a long line that is no base64' "line 1$wrong" answer one/public-key.pem < <(printf 'trust? '; long 'A'; echo '!')
 refuses 'answer: octets that are no block' 'line 1: the octets are no block of VER 0111 or 0121' \
     answer one/public-key.pem <<<"yes? $payload S0VZ AAAA"
+# a `]` in a value without an escape
+text=$(base64 -d <<<"$octets")
+for it in '[x@1 a="]"]' '[ssign@1 VER="0111" a="\\][ssign VER="]'; do
+    refuses "answer: octets that look like a block after $it" 'line 1: the octets are no block of VER 0111 or 0121' \
+        answer one/public-key.pem <<<"yes? $payload $(printf '%s' "${text/'[ssign'/"${it}[ssign"}" | base64 -w 0) AAAA"
+done
+# a program in place of ssign that states its version, and then does something else
+told_by() {
+    printf '#!/bin/sh\n[ "$1" = describe ] || exec %q "$@"\n%s\n' "$program" "$1" >false-ssign
+    chmod +x false-ssign
+}
+for command in seal answer; do
+    key=one/private-key.pem line="want $octets" where='line 1: '
+    [[ $command == answer ]] && key=one/public-key.pem line="yes? $payload $octets AAAA" where=
+    for it in 'exit 0' 'read -r line' 'read -r line; echo' 'exec </dev/null; sleep 0.1' 'read -r line; echo {'; do
+        told_by "$it"
+        refuses "$command: an ssign that does '$it'" "${where}ssign describe doesn't answer" \
+            $command $key --ssign ./false-ssign <<<"$line"
+    done
+    for it in '[]' '{}' '{"line":"x"}' '{"line":["none"]}'; do
+        told_by "read -r line; echo '$it'"
+        refuses "$command: an ssign that answers $it" "${where}ssign describe answers what is no object about signed octets" \
+            $command $key --ssign ./false-ssign <<<"$line"
+    done
+    refuses "$command: no ssign" "${where}the program ./none can't be run: No such file or directory" \
+        $command $key --ssign ./none <<<"$line"
+done
 
 # ---- Certificates
 

@@ -785,6 +785,8 @@ def put_back():
 LIAR = r"""#!{python}
 import base64, os, subprocess, sys
 words, lie = sys.argv[1:], {lie!r}
+if words[0] == "describe":
+    os.execv({program!r}, [{program!r}, *words])
 ran = subprocess.run([{program!r}, *words], stdin=0, stdout=subprocess.PIPE, close_fds=False)
 said = ran.stdout if lie != "silent" or words[0] != "plan" else b""
 is_ahead, is_resumed = "--ahead" in words, any(it.startswith("--resume") for it in words)

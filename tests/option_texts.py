@@ -15,7 +15,7 @@ import sys
 ROOT = os.path.dirname(os.path.dirname(os.path.abspath(__file__)))
 sys.path.insert(0, os.path.join(ROOT, "tools"))
 
-from ssign_keys.written import is_stamp
+from ssign_keys.live_sure import is_stamp
 
 RIGHT = ["-", "2026-01-15T09:15:07Z", "0000-02-29T00:00:00Z", "1900-02-28T23:59:59.5+23:59", "2000-02-29T12:00:00.123456-00:00",
          "9999-12-31T23:59:59.000001-23:59"]

@@ -23,7 +23,10 @@ sys.path.insert(0, os.path.join(ROOT, "tools"))
 
 from review_runs import frame  # noqa: E402
 from ssign_keys import cli  # noqa: E402
-from ssign_keys.written import Signature, Written, read_written  # noqa: E402
+from ssign_keys.blocks import Signature, Written  # noqa: E402
+from ssign_keys.describer import Describer  # noqa: E402
+from ssign_keys.faults import Fault  # noqa: E402
+from ssign_keys.seal import read_written  # noqa: E402
 
 MINE = "h s - 1"
 Said = Tuple[int, bytes, str]
@@ -39,11 +42,11 @@ def block(session: str = MINE, gbc: int = 0, first: int = 1, count: int = 2, let
             f'FMN="{first}" CNT="{count}" HB="{" ".join([digest] * count)}"]{back}').encode()
 
 
-def certificate(fragment: str, start: int, total: int, session: str = MINE) -> bytes:
-    """A certificate block."""
+def certificate(fragment: str, start: int, total: int, session: str = MINE, length: Optional[int] = None) -> bytes:
+    """A certificate block, which states another length of its fragment if one is given."""
     host, app, procid, rsid = session.split(" ")
     return (f'<110>1 - {host} {app} {procid} - [ssign-cert VER="0121" RSID="{rsid}" SG="0" SPRI="0" TPBL="{total}" '
-            f'INDEX="{start}" FLEN="{len(fragment)}" FRAG="{fragment}"]').encode()
+            f'INDEX="{start}" FLEN="{length or len(fragment)}" FRAG="{fragment}"]').encode()
 
 
 def lines(*blocks: bytes) -> bytes:
@@ -75,7 +78,15 @@ class Attacks:
     """The attacks, with what came of each."""
 
     def __init__(self, keys: str, program: str) -> None:
-        self.keys, self.program = keys, program
+        self.keys, self.program, self.describer = keys, program, Describer(program)
+
+    def accepted(self, octets: bytes) -> Optional[Written]:
+        """The block that is sealed, if these octets are."""
+        try:
+            return read_written(base64.b64encode(octets), self.describer)
+        except Fault as fault:
+            assert str(fault) == NOT_WRITTEN
+            return None
 
     def tell(self, what: str, fault: Optional[str]) -> None:
         """One check."""
@@ -120,8 +131,9 @@ class Attacks:
             "hashes with two spaces": plain.replace(b"= ", b"=  "), "hashes that aren't strict": plain.replace(b"A= ", b"B= "),
             "a time that is none": block(header="<110>1 2026-02-29T00:00:00Z"), "24 hours": block(header="<110>1 2026-01-01T24:00:00Z"),
             "a leap second": block(header="<110>1 2026-01-01T23:59:60Z"), "no header": element, "nothing but a key": b"K",
-            "a HOSTNAME too long": block("h" * 256 + " s - 1"), "an escape": certificate('- K \\"AAA', 1, 30),
-            "a fragment of UTF-8": certificate("\u00e9", 1, 2), "FLEN of another length": certificate("- N", 1, 3).replace(b'FLEN="3"', b'FLEN="2"'),
+            "a HOSTNAME too long": block("h" * 256 + " s - 1"), "an escape": certificate('- K \\"AAA', 1, 30, length=8),
+            "a fragment of UTF-8": certificate("\u00e9", 1, 2, length=2),
+            "FLEN of another length": certificate("- N", 1, 3).replace(b'FLEN="3"', b'FLEN="2"'),
             "a fragment past its payload": certificate("- N", 2, 3), "INDEX 0": certificate("- N", 0, 3),
             "a plain message": b"<13>1 - h s - - - text", "a text of PGP": b"-----BEGIN PGP SIGNED MESSAGE-----",
         }.items():
@@ -133,9 +145,8 @@ class Attacks:
         dice = random.Random(5848)
         sources = [block(), block(ver="0111", count=3), block(group=(1, 13), gbc=99, first=12), certificate("- U AAAA", 1, 8),
                    certificate("2009-05-03T14:00:39Z K S0VZ", 2, 40), block(header="<0>1 2026-01-15T09:16:30.123456+02:00")]
-        accepted: Dict[bytes, Written] = {}
-        tried = 20000
-        for _ in range(tried):
+        changed = []
+        for _ in range(20000):
             octets = bytearray(dice.choice(sources))
             for _ in range(dice.choice((1, 1, 2, 3))):
                 at, how = dice.randrange(len(octets)), dice.random()
@@ -146,15 +157,17 @@ class Attacks:
                     octets[at:at] = piece
                 else:
                     octets[at:at + 1] = piece
-            found = read_written(bytes(octets))
-            if found is not None:
-                accepted[bytes(octets)] = found
+            changed.append(bytes(octets))
+        run = subprocess.run([self.program, "describe"], input=lines(*changed), capture_output=True, check=True)
+        described = run.stdout.splitlines()
+        exact = [octets for octets, line in zip(changed, described) if b'"exact"' in line]
+        accepted = {octets: found for octets in exact for found in [self.accepted(octets)] if found is not None}
         texts = [octets[:-1] + b' SIGN="AAAA"]' for octets in accepted]
         said = subprocess.run([self.program, "inspect"], input=b"".join(map(frame, texts)), capture_output=True, check=False)
         wanted = [inspected(place, *it) for place, it in enumerate(accepted.items())]
         got = said.stdout.decode().splitlines()[:-1]
         wrong = [pair for pair in zip(wanted, got) if pair[0] != pair[1]]
-        self.tell(f"{len(accepted)} of {tried} blocks with changed octets are accepted, and ssign reads them so",
+        self.tell(f"{len(accepted)} of {len(described)} blocks with changed octets are accepted, and ssign reads them so",
                   str(wrong[:2] or said.stderr) if wrong or len(wanted) != len(got) or len(wanted) < 100 else None)
 
     def plans(self) -> None:
@@ -169,7 +182,7 @@ class Attacks:
                 plan = subprocess.run([self.program, "plan", *given], input=log, capture_output=True, check=True).stdout
                 octets = [base64.b64decode(it.split()[1]) for it in plan.splitlines()]
                 self.tell(f"a plan with {words[:40]!r}, {len(octets)} blocks",
-                          None if octets and all(map(read_written, octets)) else "it isn't accepted")
+                          None if octets and all(map(self.accepted, octets)) else "it isn't accepted")
 
     # ---- another session, and two blocks that contradict each other
 

@@ -10,6 +10,7 @@ is printed. What has to come of it is judged by the blocks that were written, an
 """
 from __future__ import annotations
 
+import base64
 import errno
 import fcntl
 import hashlib
@@ -31,8 +32,9 @@ from review_runs import frame, read_frames  # noqa: E402
 from ssign_keys import cli, programs, progress, session_state  # noqa: E402
 # loaded once here, and not in each child
 from ssign_keys import keys, ongoing, session_file, sign, verify  # noqa: E402,F401
+from ssign_keys.blocks import Signature, block_of  # noqa: E402
+from ssign_keys.describer import Describer  # noqa: E402
 from ssign_keys.faults import Fault  # noqa: E402
-from ssign_keys.written import Signature, read_written  # noqa: E402
 
 SIGN = re.compile(rb' SIGN="[^"]*"\]')
 NAMES = ["--host", "h", "--app", "s"]
@@ -126,10 +128,14 @@ def numbers_of(logs: Sequence[bytes]) -> Tuple[Dict[Tuple[object, ...], bytes], 
     announced: Dict[Tuple[object, ...], bytes] = {}
     faults: List[str] = []
     seen = set()
-    for octets in (SIGN.sub(b"]", it) for log in logs for it in messages_of(log)):
-        block = read_written(octets)
-        if not isinstance(block, Signature):
+    wanted = [base64.b64encode(SIGN.sub(b"]", it)) for log in logs for it in messages_of(log)]
+    with Describer(os.environ["SSIGN"]) as describer:
+        described = [(base64.b64decode(it), describer.describe(it)) for it in wanted]
+    for octets, fields in described:
+        if fields["line"] != "signature":
             continue
+        block = block_of(fields)
+        assert isinstance(block, Signature)
         hashes = re.findall(rb'HB="([^"]*)"', octets)[0].split(b" ")
         for key, value in [(("gbc", block.gbc), octets), *(((*block.group, block.first + at), it) for at, it in enumerate(hashes))]:
             named = (*block.session, *key)

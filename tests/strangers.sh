@@ -104,19 +104,19 @@ ssign-keys: 0 of 1 payloads are trusted"
 rm -f asked
 
 # ---- a payload of another key: nothing is computed with its numbers
-holds 'only the numbers of a trusted key are computed with' python3 -B - "$root/tools" one/public-key.pem plain <<'P'
+holds 'only the numbers of a trusted key are computed with' python3 -B - "$root/tools" one/public-key.pem plain "$program" <<'P'
 import argparse, sys
-tools, key, asked = sys.argv[1:]
+tools, key, asked, program = sys.argv[1:]
 sys.path.insert(0, tools)
-from ssign_keys import answer, keys, trust
+from ssign_keys import answer, describer, keys, trust
 parser = argparse.ArgumentParser()
 answer.add_arguments(parser)
 given = trust.Trust.from_arguments(parser.parse_args([key]))
 used, check, fault = set(), keys.PublicKey.is_signature, keys.key_fault
 keys.PublicKey.is_signature = lambda self, *words: used.add(self.numbers) or check(self, *words)
 keys.key_fault = lambda *numbers: used.add(keys.Numbers(*numbers)) or fault(*numbers)
-with open(asked, "rb") as file:
-    held = list(answer.answers(file, given, 1))
+with open(asked, "rb") as file, describer.Describer(program) as described:
+    held = list(answer.answers(file, given, 1, described))
 with open(key, "rb") as file:
     sys.exit(not held or used != {it.numbers for it in keys.read_pem_keys(key, file.read())})
 P

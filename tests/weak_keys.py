@@ -66,6 +66,17 @@ def trust(**options: object) -> object:
     return Trust.from_arguments(argparse.Namespace(**given))
 
 
+def is_valid(given: object, payload: bytes, octets: bytes, signature: bytes) -> bool:
+    """Whether this is the signature of the octets of `block` with VER 0121, by what was given."""
+    return given.signer_of(payload, mine(), b"0121", octets, signature) is not None  # type: ignore[attr-defined,no-any-return]
+
+
+def mine() -> object:
+    """The session of these octets."""
+    from ssign_keys.blocks import Session
+    return Session(b"h", b"s", b"-", b"1")
+
+
 def try_files(weak: Weak, good: Pair, folder: str) -> None:
     """The key in files of the reviewer."""
     path = write(os.path.join(folder, "weak.pem"), dsa_model.pem(weak.key))
@@ -97,17 +108,16 @@ def try_private(weak: Weak, folder: str) -> None:
 
 def try_payloads(weak: Weak, good: Pair, authority: object) -> None:
     """A certificate with the key that a good authority issued, in a payload; and a forged signature."""
-    from ssign_keys.blocks import Session
     issued = small_certificates.certificate("leaf", weak.key, "ca", good, hosts=["h"])
     payload = b"- C " + base64.b64encode(issued)
-    judged = authority.judge(payload, Session(b"h", b"s", b"-", b"1"))  # type: ignore[attr-defined]
+    judged = authority.judge(payload, mine())  # type: ignore[attr-defined]
     tell(f"--ca: {weak.what}", judged.trusted is None and bool(judged.why), judged)
     if judged.why.startswith("the key of"):
         tell(f"--ca says why: {weak.what}", judged.why == f"the key of its certificate can't be used: {weak.why}", judged.why)
     octets = block("0121", "forged")
     signature = forged(weak.key, octets, b"0121")
     if signature is not None:
-        tell(f"forged signatures: {weak.what}", not authority.is_valid(payload, octets, signature),  # type: ignore[attr-defined]
+        tell(f"forged signatures: {weak.what}", not is_valid(authority, payload, octets, signature),
              "a forged signature is valid")
 
 
@@ -152,8 +162,8 @@ def try_good(good: Pair, folder: str) -> None:
             ("--session-key, N", b"- N", {"session_key": [("h s - 1", cert)]}), ("--cert", c, {"cert": [cert]}),
             ("--ca", c, {"ca": [ca]})):
         given = trust(**options)
-        tell(f"good: {way}", given.is_valid(payload, octets, signature), way)  # type: ignore[attr-defined]
-        tell(f"good, another signature: {way}", not given.is_valid(payload, octets, signature[::-1]), way)  # type: ignore[attr-defined]
+        tell(f"good: {way}", is_valid(given, payload, octets, signature), way)
+        tell(f"good, another signature: {way}", not is_valid(given, payload, octets, signature[::-1]), way)
 
 
 def library_takes(weak: Weak) -> bool:

@@ -9,10 +9,11 @@ import hashlib
 import re
 from typing import Dict, List, Set
 
-from ssign_keys.blocks import HEADER, LONGEST_HEADER
 from ssign_keys.faults import Fault
 
-# RFC 5424, section 6.3: an element with its parameters, in whose values each `"`, `\` and `]` is escaped
+# RFC 5424, section 6.2
+HEADER = re.compile(rb"(?:[^ ]+ ){6}")
+# section 6.3: an element with its parameters, in whose values each `"`, `\` and `]` is escaped
 ELEMENT = re.compile(rb'\[([^ =\]"]+)((?: [^ =\]"]+="[^"\\\]]*(?:\\.[^"\\\]]*)*")*)\]', re.S)
 HASHES = re.compile(rb' HB="([A-Za-z0-9+/= ]*)"')
 # how many octets a hash has, by its algorithm (RFC 5848, section 4.2.1)
@@ -21,7 +22,7 @@ ALGORITHMS = {20: hashlib.sha1, 32: hashlib.sha256}
 
 def hashes_of(block: bytes) -> List[bytes]:
     """The hashes in HB of a signature block."""
-    header = HEADER.match(block[:LONGEST_HEADER])
+    header = HEADER.match(block)
     at = header.end() if header else len(block)
     while True:
         element = ELEMENT.match(block, at)

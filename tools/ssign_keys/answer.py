@@ -11,10 +11,12 @@ from .asked import About, PayloadText
 from .blocks import Session
 from .checking import Held
 from .commands import PROCESSES, SECONDS
+from .describer import Describer
 from .faults import Fault
 from .identity import UNKNOWN, Finding
 from .numbers import add_jobs
 from .processes import Workers
+from .programs import add_program_argument, find_program
 from .questions import Line, Reader
 from .streams import Output, input_lines
 from .trust import Trust
@@ -80,12 +82,12 @@ class Answers(Iterator[Answered]):
     Used with `with`, or ended by `close`, it leaves no process running, wherever the taking stopped.
     """
 
-    def __init__(self, lines: Iterable[bytes], trust: Trust, jobs: int, are_objects: bool) -> None:
+    def __init__(self, lines: Iterable[bytes], trust: Trust, jobs: int, describer: Optional[Describer]) -> None:
         """Takes no line yet."""
         self.counts = Counts()
         # the payload of the last `trust` line, if that holds
         self._trusted: Optional[PayloadText] = None
-        self._taken = self._take(lines, trust, jobs, are_objects)
+        self._taken = self._take(lines, trust, jobs, describer)
 
     def __iter__(self) -> Answers:
         """Itself."""
@@ -108,9 +110,10 @@ class Answers(Iterator[Answered]):
         """Ends the processes that check signatures."""
         self._taken.close()
 
-    def _take(self, lines: Iterable[bytes], trust: Trust, jobs: int, are_objects: bool) -> Generator[Answered, None, None]:
+    def _take(self, lines: Iterable[bytes], trust: Trust, jobs: int,
+              describer: Optional[Describer]) -> Generator[Answered, None, None]:
         """The answers to the lines that hold. Raises Fault at the first that is no question."""
-        workers, reader = Workers(trust, jobs), Reader(trust.longest, are_objects)
+        workers, reader = Workers(trust, jobs), Reader(trust.longest, describer)
         self.counts.most = trust.longest
         try:
             for asked, checked in workers.check(reader.chunks(lines)):
@@ -138,12 +141,13 @@ class Answers(Iterator[Answered]):
             yield Answered(b"", session, UNKNOWN, about, (payload.text, line.asked.rest))
 
 
-def answers(lines: Iterable[bytes], trust: Trust, jobs: int = 1, are_objects: bool = False) -> Answers:
-    """Answers lines of `ssign questions`, each with its LF, by so many processes; or those of `ssign review --ask --json`.
+def answers(lines: Iterable[bytes], trust: Trust, jobs: int = 1, describer: Optional[Describer] = None) -> Answers:
+    """Answers lines of `ssign questions`, each with its LF, by so many processes; without a describer, those of
+    `ssign review --ask --json`, which say by themselves what is in a block.
 
     No more lines are held at once than a few chunks. Raises Fault, while lines are taken, at one that is no question.
     """
-    return Answers(lines, trust, jobs, are_objects)
+    return Answers(lines, trust, jobs, describer)
 
 
 def add_arguments(parser: argparse.ArgumentParser) -> None:
@@ -152,12 +156,14 @@ def add_arguments(parser: argparse.ArgumentParser) -> None:
                         help="a file with public keys: trust a payload that states one of them")
     trusts.add_arguments(parser)
     add_jobs(parser)
+    add_program_argument(parser)
 
 
 def run(arguments: argparse.Namespace) -> int:
     """Writes the answers to the lines of standard input that hold. Status 1 if payloads are asked about and none is trusted."""
     trust = Trust.from_arguments(arguments)
-    with Output() as output, answers(input_lines(), trust, arguments.jobs) as held:
+    with Output() as output, Describer(find_program(arguments)) as describer, \
+            answers(input_lines(), trust, arguments.jobs, describer) as held:
         for answered in held:
             output.add(answered.line)
         counts = held.counts

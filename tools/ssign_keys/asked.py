@@ -4,9 +4,11 @@ from __future__ import annotations
 import json
 from typing import Any, Dict, List, NamedTuple, Optional, Protocol, Tuple
 
-from .blocks import Session
+from .blocks import Session, session_of
+from .describer import Describer
 from .encoding import is_base64
 from .faults import Fault
+from .schemes import VERSIONS
 
 # how lines of questions begin; the lines of an answers file have these words without the question mark
 TRUST, YES = b"trust?", b"yes?"
@@ -44,9 +46,11 @@ class Asked(NamedTuple):
     rest: bytes
     """Of a `yes?` line OCTETS SIGNATURE; else empty."""
     session: Optional[Session] = None
-    """None where the line doesn't state it."""
+    """Of a `yes?` line that of its block; of a `trust?` line None where it doesn't state it."""
+    version: bytes = b""
+    """VER of the block; empty for a `trust?` line."""
     about: Optional[About] = None
-    """The same for a block."""
+    """None where the line doesn't state it."""
 
 
 class Form(Protocol):
@@ -79,12 +83,24 @@ def payload_of(text: bytes, most: int, number: int) -> PayloadText:
     return PayloadText(text if length <= most else None, length)
 
 
+def asked_about(payload: PayloadText, rest: bytes, number: int, describer: Describer) -> Asked:
+    """The question about a block, with the VER and the session that ssign reads in its octets."""
+    octets, _, signature = rest.partition(b" ")
+    if not (is_base64(octets) and is_base64(signature)):
+        raise Fault(no_question(number))
+    fields = describer.describe(octets)
+    if fields["line"] == "none":
+        raise Fault(f"line {number}: the octets are no block of VER {VERSIONS}")
+    return Asked(True, payload, rest, session_of(fields), fields["ver"].encode("ascii"))
+
+
 class Plain:
     """`trust? PAYLOAD` and `yes? PAYLOAD OCTETS SIGNATURE`: each question has its payload."""
 
-    def __init__(self, most: int) -> None:
+    def __init__(self, most: int, describer: Describer) -> None:
         """Looks at payloads of so many octets at most."""
         self._most = most
+        self._describer = describer
         # what stands in the line before, so that a payload that is repeated is read once
         self._text = b""
         self._payload = PayloadText(None, 0)
@@ -104,15 +120,18 @@ class Plain:
             text = line[start:after]
             self._payload = payload_of(text, self._most, number)
             self._text = text
-        return Asked(word == YES, self._payload, line[after + 1:end])
+        if word == TRUST:
+            return Asked(False, self._payload, b"")
+        return asked_about(self._payload, line[after + 1:end], number, self._describer)
 
 
 class Once:
     """`payload INDEX PAYLOAD`, then `trust? INDEX` and `yes? INDEX OCTETS SIGNATURE`: each payload stands once."""
 
-    def __init__(self, most: int) -> None:
+    def __init__(self, most: int, describer: Describer) -> None:
         """Looks at payloads of so many octets at most."""
         self._most = most
+        self._describer = describer
         self._payloads: List[PayloadText] = []
 
     def read(self, line: bytes, number: int) -> Optional[Asked]:
@@ -125,7 +144,8 @@ class Once:
             return None
         if index >= len(self._payloads):
             raise Fault(f"line {number}: no payload with the index {index} stands before it")
-        return Asked(word == YES, self._payloads[index], rest)
+        payload = self._payloads[index]
+        return asked_about(payload, rest, number, self._describer) if word == YES else Asked(False, payload, b"")
 
 
 class Objects:
@@ -150,15 +170,10 @@ class Objects:
             if word == TRUST:
                 return Asked(False, payload, b"", session)
             rest = f"{fields['octets']} {fields['signature']}".encode("ascii")
-            return Asked(True, payload, rest, session, about_of(fields))
+            about = about_of(fields)
+            return Asked(True, payload, rest, session, about.version, about)
         except (ValueError, KeyError, IndexError, TypeError, AttributeError) as fault:
             raise Fault(no_object(number)) from fault
-
-
-def session_of(fields: Dict[str, Any]) -> Session:
-    """The session that an object of JSON names."""
-    host, app, procid, rsid = (str(fields[it]).encode("ascii") for it in ("host", "app", "procid", "rsid"))
-    return Session(host, app, procid, rsid)
 
 
 def about_of(fields: Dict[str, Any]) -> About:

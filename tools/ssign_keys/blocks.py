@@ -1,20 +1,8 @@
-"""Blocks: what a checker needs to know of the octets that a block's signature covers (RFC 5848, sections 4 and 5)."""
+"""Blocks and their sessions, as `ssign` reports what is in them."""
 from __future__ import annotations
 
-import re
-from typing import NamedTuple, Optional
-
-from .schemes import PATTERN
-
-# RFC 5424, section 6.2. A field holds no space, and may hold `[` and whatever else a block begins with.
-HEADER = re.compile(rb"<[0-9]{1,3}>1 [^ ]+ ([^ ]+) ([^ ]+) ([^ ]+) [^ ]+ ")
-# What the fields of a header can have at most, with the spaces between them.
-LONGEST_HEADER = 600
-FRONT = rb'\[ssign(?:-cert)? VER="(' + PATTERN + rb')" RSID="([0-9]{1,10})" '
-FIRST_ELEMENT = re.compile(FRONT)
-# After the header nothing but an element begins so: in a value each `"` and `]` is escaped, no name of an element or a
-# parameter holds `]`, and MSG stands after the elements.
-LATER_ELEMENT = re.compile(rb"\]" + FRONT)
+import base64
+from typing import Any, Dict, NamedTuple, Tuple, Union
 
 
 class Session(NamedTuple):
@@ -30,22 +18,44 @@ class Session(NamedTuple):
         return b" ".join(self).decode("ascii", "backslashreplace")
 
 
-class Block(NamedTuple):
-    """What the octets of a block say of their signature."""
+class Signature(NamedTuple):
+    """A signature block."""
 
     version: bytes
     session: Session
-    end: int
-    """Where its element goes on after RSID."""
+    group: Tuple[int, int]
+    """SG and SPRI."""
+    gbc: int
+    first: int
+    """The number of the first message, FMN."""
+    hashes: int
+    """How many hashes it has, CNT."""
 
 
-def read_block(octets: bytes) -> Optional[Block]:
-    """The block that has these octets, or None where no block of a VER that is known can be seen there."""
-    header = HEADER.match(octets[:LONGEST_HEADER])
-    if not header:
-        return None
-    behind = header.end()
-    element = FIRST_ELEMENT.match(octets, behind) or LATER_ELEMENT.search(octets, behind)
-    if not element:
-        return None
-    return Block(element[1], Session(header[1], header[2], header[3], element[2]), element.end())
+class Certificate(NamedTuple):
+    """A certificate block."""
+
+    version: bytes
+    session: Session
+    total: int
+    """How many octets the payload has, TPBL."""
+    start: int
+    """Where in it the fragment begins, from 1: INDEX."""
+    fragment: bytes
+
+
+Written = Union[Signature, Certificate]
+
+
+def session_of(fields: Dict[str, Any]) -> Session:
+    """The session that an object of JSON names."""
+    host, app, procid, rsid = (str(fields[it]).encode("ascii") for it in ("host", "app", "procid", "rsid"))
+    return Session(host, app, procid, rsid)
+
+
+def block_of(fields: Dict[str, Any]) -> Written:
+    """The block that an object of `ssign describe` is about, which isn't `none`."""
+    version, session = fields["ver"].encode("ascii"), session_of(fields)
+    if fields["line"] == "signature":
+        return Signature(version, session, (fields["sg"], fields["spri"]), fields["gbc"], fields["first"], fields["count"])
+    return Certificate(version, session, fields["total"], fields["index"], base64.b64decode(fields["fragment"]))

@@ -4,13 +4,11 @@ from __future__ import annotations
 from dataclasses import dataclass, field
 from typing import List, NamedTuple, Optional, Sequence
 
-from .asked import no_question
-from .blocks import Block, Session, read_block
+from .blocks import Session
 from .commands import BUDGET
-from .encoding import decode, is_base64
+from .encoding import decode
 from .faults import Fault
 from .identity import Finding
-from .schemes import VERSIONS
 from .signatures import LONGEST_TEXT
 from .trust import Trust
 
@@ -27,10 +25,10 @@ class Question(NamedTuple):
     """Whether it is a `yes?` line."""
     rest: bytes
     """What stands after the payload of a `yes?` line: OCTETS SIGNATURE."""
-    session: Optional[Session] = None
-    """None where the line doesn't state it."""
-    version: Optional[bytes] = None
-    """VER of a block; None where the line doesn't state it."""
+    session: Optional[Session]
+    """That of the block; of a `trust?` line None where it doesn't state it."""
+    version: bytes
+    """VER of the block."""
 
 
 class ChunkPayload(NamedTuple):
@@ -76,22 +74,6 @@ class Checked(NamedTuple):
     """How often no command was asked, since what commands may take was used up."""
 
 
-def is_block_part(rest: bytes) -> bool:
-    """Whether this is the base64 of octets, a space and the base64 of a signature."""
-    octets, space, signature = rest.partition(b" ")
-    return bool(space) and is_base64(octets) and is_base64(signature)
-
-
-def block_of(question: Question, octets: bytes) -> Block:
-    """The VER and the session of the block that a `yes?` line asks about: those of the line, or else of its octets."""
-    if question.session is not None and question.version is not None:
-        return Block(question.version, question.session, 0)
-    block = read_block(octets)
-    if not block:
-        raise Fault(f"line {question.line_number}: the octets are no block of VER {VERSIONS}")
-    return block
-
-
 class Checker:
     """Checks chunks, one after the other. The last payload is kept, because the next chunk may go on with it."""
 
@@ -134,21 +116,17 @@ class Checker:
 
 
 def check_block(trust: Trust, question: Question, payload: Optional[bytes]) -> Optional[Held]:
-    """Whether a `yes?` line holds. Raises Fault where it is no question."""
+    """Whether a `yes?` line holds. Raises Fault where that can't be found out."""
+    session = question.session
     text, _, spelled = question.rest.partition(b" ")
-    # each text is decoded once, but one that isn't looked at, or is too long, isn't held
-    octets = decode(text) if payload else None
-    signature = decode(spelled) if payload and len(spelled) <= LONGEST_TEXT else None
-    if not (octets or is_base64(text)) or not (signature or is_base64(spelled)):
-        raise Fault(no_question(question.line_number))
-    if not payload or not octets:
+    octets, signature = (decode(text), decode(spelled)) if payload and len(spelled) <= LONGEST_TEXT else (None, None)
+    if not payload or not octets or not signature or session is None:
         return None
-    block = block_of(question, octets)
     try:
-        signer = trust.signer_of(payload, block, octets, signature) if signature else None
+        signer = trust.signer_of(payload, session, question.version, octets, signature)
     except Fault as fault:
         raise Fault(f"line {question.line_number}: {fault}") from fault
-    return Held(block.session, signer) if signer else None
+    return Held(session, signer) if signer else None
 
 
 def check_payload(trust: Trust, question: Question, payload: Optional[bytes],
@@ -156,9 +134,7 @@ def check_payload(trust: Trust, question: Question, payload: Optional[bytes],
     """Whether a `trust?` line holds: for the session of the block that is asked about after it."""
     session = question.session
     if session is None and following and following[0].is_block and following[0].payload == question.payload:
-        if not is_block_part(following[0].rest):
-            raise Fault(no_question(following[0].line_number))
-        session = block_of(following[0], decode(following[0].rest.partition(b" ")[0]) or b"").session
+        session = following[0].session
     if not payload:
         return Held(session, TOO_LONG) if session else None
     try:

@@ -10,8 +10,7 @@ from array import array
 from typing import BinaryIO, Dict, Iterator, List, NamedTuple, Optional, Sequence, Set, Tuple
 
 from .answer import Answered
-from .asked import session_of
-from .blocks import Session
+from .blocks import Session, session_of
 from .inspected import Object
 from .report import Group, ReportVisitor
 from .survey import Survey

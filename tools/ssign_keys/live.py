@@ -8,6 +8,7 @@ import os
 import subprocess
 from typing import Optional
 
+from .describer import Describer
 from .faults import Fault
 from .files import open_lock, read_file, reason
 from .keys import PublicKey, read_pem_keys, read_private_key
@@ -114,8 +115,8 @@ def run(arguments: argparse.Namespace) -> int:
         if len(getattr(arguments, name) or []) > 1:
             raise Fault(f"--{name} can be given only once")
     words_of(arguments)
-    sealer = sealer_of(arguments)
     program = behind(find_program(arguments))
+    sealer = sealer_of(arguments, Describer(program))
     for option, folder, mode in (("--state", arguments.state, 0o700), ("--out", arguments.out, 0o750)):
         make_folder(option, folder, mode)
     lock = lock_folder(arguments.state)
@@ -175,15 +176,15 @@ def behind(program: str) -> str:
     return path if ran.returncode == 0 and os.path.isfile(path) else program
 
 
-def sealer_of(arguments: argparse.Namespace) -> Sealer:
+def sealer_of(arguments: argparse.Namespace, describer: Describer) -> Sealer:
     """Who signs."""
     if arguments.key is not None:
         if arguments.public is not None:
             raise Fault("--public goes with --seal-command; --key says its public key by itself")
-        return KeySealer(read_private_key(arguments.key))
+        return KeySealer(read_private_key(arguments.key), describer)
     if arguments.public is None:
         raise Fault("--seal-command needs the public key of whoever signs: --public PUBLIC.pem")
-    return CommandSealer(arguments.seal_command, only_key(arguments.public))
+    return CommandSealer(arguments.seal_command, only_key(arguments.public), describer)
 
 
 def only_key(path: str) -> PublicKey:

@@ -10,13 +10,13 @@ import subprocess
 import time
 from typing import List, Optional, Protocol, Sequence
 
+from .describer import Describer
 from .encoding import decode
 from .faults import Fault
 from .keys import PrivateKey, PublicKey
 from .live_engine import Trouble, own_mistake
 from .ongoing import Room
-from .seal import seals
-from .written import read_written
+from .seal import read_written, seals
 
 # how long the command may take for one signature, in seconds
 PATIENCE = 10.0
@@ -53,16 +53,17 @@ class KeySealer:
 
     is_far = False
 
-    def __init__(self, key: PrivateKey) -> None:
-        """The key."""
+    def __init__(self, key: PrivateKey, describer: Describer) -> None:
+        """The key, and who says what is in a block."""
         self._key = key
+        self._describer = describer
         self.public = key.public
         self._answer: Optional[List[bytes]] = None
 
     def ask(self, wants: Sequence[bytes], room: Room, are_certificates: bool) -> None:
         """Signs. Whatever isn't a block of the session between its counters is refused."""
         check = room.check_certificate if are_certificates else room.check
-        lines = list(seals((b"want %s" % it for it in wants), self._key, check))
+        lines = list(seals((b"want %s" % it for it in wants), self._key, self._describer, check))
         room.check_spans()
         self._answer = [it[:-1].rpartition(b" ")[2] for it in lines]
 
@@ -83,13 +84,13 @@ class KeySealer:
         """Nothing was started."""
 
 
-def check_wants(wants: Sequence[bytes], room: Room, are_certificates: bool) -> None:
+def check_wants(wants: Sequence[bytes], room: Room, are_certificates: bool, describer: Describer) -> None:
     """Refuses to have anything signed but blocks of the session between its counters."""
     for line, want in enumerate(wants, 1):
         octets = decode(want)
-        block = None if octets is None else read_written(octets)
-        if octets is None or block is None:
+        if octets is None:
             raise own_mistake("a plan with what is no block")
+        block = read_written(want, describer)
         (room.check_certificate if are_certificates else room.check)(block, octets, line)
     room.check_spans()
 
@@ -99,8 +100,9 @@ class CommandSealer:
 
     is_far = True
 
-    def __init__(self, command: str, public: PublicKey) -> None:
-        """The words of the command, as a shell reads them, and the key whose signatures it makes. It isn't started yet."""
+    def __init__(self, command: str, public: PublicKey, describer: Describer) -> None:
+        """The words of the command, as a shell reads them, the key whose signatures it makes, and who says what is in a block."""
+        self._describer = describer
         try:
             self._words = shlex.split(command)
         except ValueError as fault:
@@ -116,7 +118,7 @@ class CommandSealer:
 
     def ask(self, wants: Sequence[bytes], room: Room, are_certificates: bool) -> None:
         """Asks for the first signature, and starts the command where it doesn't run."""
-        check_wants(wants, room, are_certificates)
+        check_wants(wants, room, are_certificates, self._describer)
         self._wants, self._signatures, self._held = list(wants), [], b""
         if self._child is None or self._child.poll() is not None:
             self.close()
@@ -185,10 +187,9 @@ class CommandSealer:
         word, _, rest = line.partition(b" ")
         octets, _, signature = rest.partition(b" ")
         made, text = decode(signature), decode(want)
-        block = None if text is None else read_written(text)
-        if word != b"seal" or octets != want or made is None or text is None or block is None:
+        if word != b"seal" or octets != want or made is None or text is None:
             raise self._failed("answered something else than the `seal` line of what it was asked")
-        fault = self.public.signature_fault(text, block.version, made)
+        fault = self.public.signature_fault(text, read_written(want, self._describer).version, made)
         if fault is not None:
             raise self._failed(f"gave a signature that {fault}")
         self._signatures.append(base64.b64encode(made))

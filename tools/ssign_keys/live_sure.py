@@ -6,8 +6,7 @@ here is asked about before it is stored. So a mistake here loses nothing.
 from __future__ import annotations
 
 import re
-
-from .written import is_stamp
+from calendar import isleap
 
 # RFC 5424, section 6. Elements have ASCII alone and no escape, and their names no colon, which a block's never has either.
 NAME = rb"[A-Za-z][A-Za-z0-9.@_-]{0,31}"
@@ -18,6 +17,12 @@ ID = re.compile(rb"\[(" + NAME + rb")")
 MARK = b"ssign"
 WRAPPED = b"wrapped"
 BOM = b"\xef\xbb\xbf"
+
+# a day of a month, or the last one of February in a leap year
+DAY = (rb"(?:[0-9]{4}-(?:(?:0[1-9]|1[0-2])-(?:0[1-9]|1[0-9]|2[0-8])|(?:0[13-9]|1[0-2])-(?:29|30)|(?:0[13578]|1[02])-31)"
+       rb"|([0-9]{4})-02-29)")
+TIME = rb"(?:[01][0-9]|2[0-3]):[0-5][0-9]"
+STAMP = re.compile(rb"-|" + DAY + rb"T" + TIME + rb":[0-5][0-9](?:\.[0-9]{1,6})?(?:Z|[+-]" + TIME + rb")")
 
 
 def is_sure(message: bytes) -> bool:
@@ -30,3 +35,9 @@ def is_sure(message: bytes) -> bool:
         if len(set(names)) != len(names) or any(it.startswith(MARK) for it in names) or found[3].count(b"[") != len(names):
             return False
     return not (found[4] or b"").startswith(BOM)
+
+
+def is_stamp(stamp: bytes) -> bool:
+    """Whether this is a TIMESTAMP (RFC 5424, section 6.2.3), or `-`."""
+    found = STAMP.fullmatch(stamp)
+    return found is not None and (found[1] is None or isleap(int(found[1])))

@@ -11,7 +11,7 @@ import itertools
 import subprocess
 from typing import BinaryIO, Callable, List, Optional
 
-from .blocks import Session
+from .blocks import Certificate, Session, Signature, Written
 from .counters_file import lines_of
 from .defaults import USUAL_FIELDS, fill, machine_name, most_hashes, only
 from .faults import Fault
@@ -29,7 +29,6 @@ from .session_file import KEPT, MOST_RSID, START, Ends, Ongoing, read_ends
 from .session_state import NEW, SessionState
 from .texts import quoted
 from .workplace import Workplace, finish, put
-from .written import Certificate, Signature, Written
 
 # what an option of `ssign sign` is where it isn't given, but for those that depend on the key or on the time
 USUAL = {**USUAL_FIELDS, "groups": "one", "frag": "500", "copies": "1"}

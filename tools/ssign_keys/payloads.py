@@ -15,6 +15,8 @@ from .sizes import LONGEST_PAYLOAD
 # RFC 5424, section 6.2.3, then the type, then the key blob, which the type N lacks.
 STAMP = rb"-|[0-9]{4}-[0-9]{2}-[0-9]{2}T[0-9]{2}:[0-9]{2}:[0-9]{2}(?:\.[0-9]{1,6})?(?:Z|[+-][0-9]{2}:[0-9]{2})"
 PAYLOAD = re.compile(rb"(%s) (?:([%s]) ([A-Za-z0-9+/]+=*)|([%s]) ?)" % (STAMP, WITH_BLOB.encode(), WITHOUT_BLOB.encode()))
+# what all of these are made of
+OCTETS = re.compile(rb"[A-Za-z0-9+/= :.-]*")
 
 
 class Payload(NamedTuple):

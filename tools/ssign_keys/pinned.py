@@ -13,8 +13,8 @@ from array import array
 from typing import Any, BinaryIO, Dict, FrozenSet, Iterator, List, Mapping, NamedTuple, Optional, Sequence, Set, Tuple
 
 from .answer import answers
-from .asked import YES, session_of
-from .blocks import Session
+from .asked import YES
+from .blocks import Session, session_of
 from .claims import is_among
 from .fragments import Fragment, Joiner
 from .json_text import compact
@@ -221,7 +221,7 @@ class Search:
         of_sessions = {session: [numbers[it.numbers] for it in of_session] for session, of_session in keys.items()}
         # the places of what is valid, which rise, and the numbers of the keys
         places, signers = array("I"), array("I")
-        with answers(self._questions(inspected, stated, of_sessions), trust, jobs, True) as answered:
+        with answers(self._questions(inspected, stated, of_sessions), trust, jobs) as answered:
             for answer in answered:
                 if answer.about is not None:
                     places.append(answer.about.place)

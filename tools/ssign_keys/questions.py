@@ -5,6 +5,7 @@ from typing import Iterable, Iterator, List, NamedTuple, Optional, Tuple
 
 from .asked import Asked, Form, Objects, Once, PayloadText, Plain
 from .checking import Chunk, ChunkPayload, Question
+from .describer import Describer
 from .faults import Fault
 
 # A chunk takes no more than this, but for one line more.
@@ -29,10 +30,14 @@ class Line(NamedTuple):
 class Reader:
     """Takes lines one by one. What is remembered is the last question, and each payload that is stated once."""
 
-    def __init__(self, most: int, are_objects: bool) -> None:
-        """No line yet. Payloads of so many octets at most are looked at. Objects are taken from ssign alone, and by no other way."""
+    def __init__(self, most: int, describer: Optional[Describer]) -> None:
+        """No line yet. Payloads of so many octets at most are looked at.
+
+        Without a describer, the lines are objects of ssign itself.
+        """
         self._most = most
-        self._form: Optional[Form] = Objects(most) if are_objects else None
+        self._describer = describer
+        self._form: Optional[Form] = None
         self._line_number = 0
         self._last: Optional[Asked] = None
         self._lines: List[Line] = []
@@ -68,7 +73,10 @@ class Reader:
     def _read(self, line: bytes) -> Optional[Asked]:
         """The question of a line. The first line says in which form all are."""
         if self._form is None:
-            self._form = Once(self._most) if line.startswith(b"payload ") else Plain(self._most)
+            if self._describer is None:
+                self._form = Objects(self._most)
+            else:
+                self._form = (Once if line.startswith(b"payload ") else Plain)(self._most, self._describer)
         return self._form.read(line, self._line_number)
 
     def _is_full(self) -> bool:
@@ -99,7 +107,7 @@ class Reader:
         if is_new or not self._lines or not is_same(asked, self._last):
             self._chunk.questions.append(
                 Question(self._line_number, len(self._chunk.payloads) - 1, asked.is_block, asked.rest, asked.session,
-                         asked.about and asked.about.version))
+                         asked.version))
         # what is asked about a payload that isn't looked at is no line of an answers file
         kept = asked if payload.text is not None else asked._replace(rest=b"")
         self._lines.append(Line(kept, len(self._chunk.questions) - 1))

@@ -33,8 +33,7 @@ SHA256 = Scheme(b"0121", "SHA-256", 256, 2048, 256)
 # those of shorter hashes first; the last one is the usual one
 SCHEMES = {it.ver: it for it in (SHA1, SHA256)}
 USUAL = SHA256
-# each VER, as a part of a pattern and in words
-PATTERN = b"|".join(SCHEMES)
+# each VER in words
 VERSIONS = " or ".join(it.name for it in SCHEMES.values())
 
 

@@ -10,17 +10,19 @@ import base64
 from contextlib import ExitStack
 from typing import Callable, Dict, Iterable, Iterator, List, Optional
 
-from .blocks import Session
+from .blocks import Certificate, Session, Written, block_of
+from .describer import Describer
 from .encoding import decode
 from .faults import Fault
 from .keys import PrivateKey, read_private_key
 from .output import write_out
+from .payloads import OCTETS
+from .programs import add_program_argument, find_program
 from .seal_each import LONGEST, LastSessions, LastState
 from .sealed import Sessions, record_of
 from .sealed_payloads import OwnPayload, Payloads
 from .state import State
 from .streams import Output, input_lines, short_lines
-from .written import Certificate, Written, read_written
 
 WANT = b"want "
 # the options that name a session, with the field of the RFC that each is
@@ -29,7 +31,16 @@ NAMES = {"host": "HOSTNAME", "app": "APP-NAME", "procid": "PROCID", "rsid": "RSI
 Check = Callable[[Written, bytes, int], None]
 
 
-def seals(lines: Iterable[bytes], key: PrivateKey, check: Optional[Check] = None) -> Iterator[bytes]:
+def read_written(octets: bytes, describer: Describer) -> Written:
+    """The block that these octets in base64 are, all of them. Raises Fault where `ssign plan` doesn't write such a block."""
+    fields = describer.describe(octets)
+    block = block_of(fields) if "exact" in fields else None
+    if block is None or isinstance(block, Certificate) and OCTETS.fullmatch(block.fragment) is None:
+        raise Fault("the octets aren't a block as `ssign plan` writes it, so they aren't signed")
+    return block
+
+
+def seals(lines: Iterable[bytes], key: PrivateKey, describer: Describer, check: Optional[Check] = None) -> Iterator[bytes]:
     """For each line `want OCTETS`, with or without its LF, the line `seal OCTETS SIGNATURE` with its LF.
 
     Raises Fault at a line that is no such line, at octets that are no block of `ssign plan`, at a block that `check`
@@ -41,9 +52,7 @@ def seals(lines: Iterable[bytes], key: PrivateKey, check: Optional[Check] = None
         if octets is None:
             raise Fault(f"line {number} is no line `want OCTETS` of ssign plan")
         try:
-            block = read_written(octets)
-            if block is None:
-                raise Fault("the octets aren't a block as `ssign plan` writes it, so they aren't signed")
+            block = read_written(wanted, describer)
             if check is not None:
                 check(block, octets, number)
             signature = key.sign(octets, block.version)
@@ -63,6 +72,7 @@ def add_arguments(parser: argparse.ArgumentParser) -> None:
     parser.add_argument("--new-state", action="store_true", help="begin the file of --state, which may not be there yet")
     parser.add_argument("--each", action="store_true", help="answer each line at once, as `ssign-keys live` wants it; the file of "
                         "--state remembers the last blocks then, and a block before them is refused")
+    add_program_argument(parser)
 
 
 def run(arguments: argparse.Namespace) -> int:
@@ -71,8 +81,9 @@ def run(arguments: argparse.Namespace) -> int:
         raise Fault("--new-state goes with --state FILE")
     wanted = session_of(arguments)
     key = read_private_key(arguments.key)
+    program = find_program(arguments)
     if arguments.each:
-        return seal_each(arguments, key, wanted)
+        return seal_each(arguments, key, program, wanted)
     with ExitStack() as stack:
         state: Optional[State] = None
         sessions = Sessions(is_ordered=False)
@@ -87,7 +98,7 @@ def run(arguments: argparse.Namespace) -> int:
             sessions.take(block.session, record_of(block, octets, line))
             payloads.take(block)
 
-        for line in seals(input_lines(), key, check):
+        for line in seals(input_lines(), key, stack.enter_context(Describer(program)), check):
             output.add(line)
         sessions.check_spans()
         payloads.refuse_other_key(key.public)
@@ -97,7 +108,7 @@ def run(arguments: argparse.Namespace) -> int:
     return 0
 
 
-def seal_each(arguments: argparse.Namespace, key: PrivateKey, wanted: Dict[str, bytes]) -> int:
+def seal_each(arguments: argparse.Namespace, key: PrivateKey, program: str, wanted: Dict[str, bytes]) -> int:
     """Answers each line of standard input at once. Ends at the first one that is refused.
 
     A block stands in the state, on the disk, before its seal is given out. The state is locked for one answer at a time, so a
@@ -112,10 +123,12 @@ def seal_each(arguments: argparse.Namespace, key: PrivateKey, wanted: Dict[str, 
 
     def check(block: Written, octets: bytes, line: int) -> None:
         refuse_other_session(block.session, wanted)
-        ask(block.session, payload.stamp(block) if isinstance(block, Certificate) else record_of(block, octets, 0), "rsid" in wanted)
+        wants = payload.stamp(block) if isinstance(block, Certificate) else record_of(block, octets, 0)
+        ask(block.session, wants, "rsid" in wanted)
 
-    for line in seals(short_lines(LONGEST), key, check):
-        write_out([line])
+    with Describer(program) as describer:
+        for line in seals(short_lines(LONGEST), key, describer, check):
+            write_out([line])
     return 0
 
 

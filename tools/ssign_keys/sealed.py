@@ -5,9 +5,8 @@ import hashlib
 from dataclasses import dataclass, field
 from typing import Dict, Iterator, NamedTuple, Tuple
 
-from .blocks import Session
+from .blocks import Session, Signature, Written
 from .faults import Fault
-from .written import Signature, Written
 
 Names = Tuple[bytes, bytes, bytes]
 

@@ -4,12 +4,11 @@ from __future__ import annotations
 import re
 from typing import Dict, Optional
 
-from .blocks import Session
+from .blocks import Certificate, Session, Written
 from .faults import Fault
 from .keys import PublicKey
 from .payloads import read_payload, state_key
 from .stated import refuse_other_key
-from .written import Certificate, Written
 
 # RFC 5424, section 6.2.3: what a TIMESTAMP is made of, and how many octets the longest one has
 OF_STAMP = re.compile(rb"[0-9TZ:.+-]*")

@@ -14,6 +14,7 @@ from . import set_aside as set_aside_options
 from . import wrapping as wrapping_options
 from .chain import options as folder_options
 from .defaults import fill, machine_name
+from .describer import Describer
 from .faults import Fault
 from .keys import PrivateKey, read_private_key
 from .known_sessions import KnownSessions
@@ -157,13 +158,9 @@ def seal(program: str, words: List[str], key: PrivateKey, log: Log, workplace: W
     def tick() -> None:
         progress.show("planning", log.position(), log.size, "octets")
 
-    def counted() -> Iterator[bytes]:
-        for count, line in enumerate(seals(after_first(planning.lines(tick), begin), key, check), 1):
+    with workplace.new_file("seals") as file, Describer(program) as describer:
+        for count, line in enumerate(seals(after_first(planning.lines(tick), begin), key, describer, check), 1):
             progress.show("signing", count, 0, "blocks")
-            yield line
-
-    with workplace.new_file("seals") as file:
-        for line in counted():
             put(file, line)
         finish(file)
     return workplace.path("seals")

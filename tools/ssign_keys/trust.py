@@ -6,7 +6,7 @@ from datetime import datetime, timezone
 from typing import TYPE_CHECKING, Dict, Iterable, List, NamedTuple, Optional, Sequence, Tuple
 
 from . import openpgp
-from .blocks import Block, Session, read_block
+from .blocks import Session
 from .faults import Fault
 from .files import read_file
 from .identity import UNKNOWN, ByLine, CertificateFacts, Finding, Identity
@@ -303,15 +303,10 @@ class Trust:
         is_for_authorities = given is None and self._authorities and stated.payload.type == CERTIFICATE
         return "" if is_for_authorities else stated_fingerprint(stated.numbers) or ""
 
-    def is_valid(self, payload: bytes, octets: bytes, signature: bytes) -> bool:
-        """Whether this is the signature of a block's octets by the key that is trusted for its session."""
-        block = read_block(octets)
-        return block is not None and self.signer_of(payload, block, octets, signature) is not None
-
-    def signer_of(self, payload: bytes, block: Block, octets: bytes, signature: bytes) -> Optional[Finding]:
-        """Whose key is trusted for the session of a block, where this is its signature of the octets."""
-        judged = self.judge(payload, block.session)
-        return judged.finding if judged.trusted and judged.trusted.key.is_signature(octets, block.version, signature) else None
+    def signer_of(self, payload: bytes, session: Session, version: bytes, octets: bytes, signature: bytes) -> Optional[Finding]:
+        """Whose key is trusted for the session of a block with this VER, where this is its signature of the octets."""
+        judged = self.judge(payload, session)
+        return judged.finding if judged.trusted and judged.trusted.key.is_signature(octets, version, signature) else None
 
     def _judge_stated(self, stated: Stated, session: Optional[Session]) -> Judged:
         """What comes of what a payload states in a session."""

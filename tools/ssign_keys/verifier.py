@@ -9,7 +9,7 @@ from typing import TYPE_CHECKING, AbstractSet, BinaryIO, Callable, Iterator, Lis
 from . import sha1
 from . import strangers
 from .answer import answers
-from .asked import session_of as session_in
+from .blocks import session_of as session_in
 from .asking import Asking
 from .block_facts import Notes, noted
 from .broken_blocks import Broken, Marks
@@ -172,7 +172,7 @@ class Verifier:
         about some messages of the log alone."""
         known = self._known
         with self._workplace.new_file("answers") as file, self._workplace.new_file("notes") as notes, \
-                answers(lines, trust, self.arguments.jobs, True) as answered:
+                answers(lines, trust, self.arguments.jobs) as answered:
             self._unproved = Unproved(self._workplace, known.asked if known.words else None)
             for count, it in enumerate(noted(answered, notes, known.fragment_at), 1):
                 put(file, it.line)

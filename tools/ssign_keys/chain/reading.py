@@ -17,7 +17,6 @@ from .names import BZIP2, bare
 # in so many first octets of a signed file the message of its link stands, after the certificate blocks
 HEAD = 1 << 18
 FIRST_PIECE = 1 << 14
-CERTIFICATE = b"[ssign-cert"
 
 
 class Digests(NamedTuple):
@@ -30,14 +29,12 @@ class Digests(NamedTuple):
 
 
 class First(NamedTuple):
-    """The first message of a signed file that is no certificate block, and the link that it spells."""
+    """The first message of a signed file that spells a link. Whether that is its own link, a review says."""
 
     message: bytes
     names: bytes
     """HOSTNAME, APP-NAME and PROCID, with a space between two."""
     link: Link
-    place: int
-    """How many certificate blocks stand before it."""
 
 
 def open_in(folder: int, name: str) -> BinaryIO:
@@ -93,7 +90,8 @@ def digests(pieces: Iterable[bytes], ends: Sequence[int] = ()) -> Digests:
 
 
 def first_of(folder: int, name: str, workplace: Workplace) -> Optional[First]:
-    """The first message of a signed file, where it spells a link; else None. What it says is known once it is verified."""
+    """The first message of a signed file that spells a link; None where there is none near its front. What it says is known once
+    it is verified."""
     head = b""
     try:
         with open_in(folder, name) as file:
@@ -108,15 +106,13 @@ def first_of(folder: int, name: str, workplace: Workplace) -> Optional[First]:
 
 
 def first_in(head: bytes) -> Optional[First]:
-    """The first message in these octets that is no certificate block; None where it isn't there in whole, or spells no link."""
-    at = place = 0
+    """The first message in these octets that spells a link; None where none is there in whole."""
+    at = 0
     while True:
         start, length = frame_at(head, at)
-        if not length or start + length > len(head):
+        at = start + length
+        if not length or at > len(head):
             return None
-        message = head[start:start + length]
-        fields = message.split(b" ", 7)
-        if len(fields) < 8 or not fields[6].startswith(CERTIFICATE):
-            stated = stated_in(message)
-            return None if stated is None else First(message, stated.names, stated.link, place)
-        at, place = start + length, place + 1
+        stated = stated_in(head[start:at])
+        if stated is not None:
+            return First(head[start:at], stated.names, stated.link)

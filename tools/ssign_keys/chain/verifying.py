@@ -1,28 +1,24 @@
-"""Verifies one signed file with the signer's own public key, as `ssign-keys verify` does, before anything rests on it."""
+"""Verifies one signed file with the signer's own public key, as `ssign-keys check` does, before anything rests on it."""
 from __future__ import annotations
 
 import json
-import os
-from typing import BinaryIO, List, Optional
+from typing import Any, BinaryIO, Dict, Optional
 
-# loaded here, before it is forked, it is loaded once
-from .. import checked, json_verdict, program_facts, times
-from ..cli import main
+from ..blocks import Session
+from ..check.keys import Judges, Keys
+from ..check.verdicts import LONGEST_LINK, Firsts, verdict_on
 from ..commands import BUDGET
 from ..faults import Fault
+from ..json_text import compact
 from ..keys import PublicKey
-from ..trust import read_public_keys
-from ..words import spelled
+from ..reviewed import Reviewed
+from ..trust import Trust
 from ..workplace import Workplace, finish, put
 from .reading import First
 
-LOADED = (checked, json_verdict, program_facts, times)
-# a longer line of what is said of a file is cut
-MOST_SAID = 2000
-
 
 class Verifier:
-    """Runs `verify` in a process that is forked."""
+    """Makes a verdict in a process that is forked."""
 
     def __init__(self, program: str, key: PublicKey, max_expanded: Optional[int], workplace: Workplace) -> None:
         """Has the public key stand in a passing file, and its numbers be looked at once."""
@@ -30,44 +26,41 @@ class Verifier:
         with workplace.new_file("public-key.pem") as file:
             put(file, key.pem())
             finish(file)
-        path = workplace.path("public-key.pem")
-        read_public_keys(path)
-        limit = [] if max_expanded is None else [f"--max-expanded={max_expanded}"]
-        self._words = ["verify", "--json", "--findings", "--allow-sha1", f"--key={path}", f"--ssign={program}", *limit, "--"]
+        arguments = Keys((workplace.path("public-key.pem"),), (), None, True, max_expanded).verify_arguments()
+        self._judges = Judges(arguments, Trust.from_arguments(arguments), None, program, ("", "", ""))
 
     def sha256(self, file: BinaryIO, first: First) -> str:
         """The SHA-256 of a signed file that is clean, and whose number 1 is this message. Raises Fault with what is wrong."""
-        words = [*self._words, f"/proc/self/fd/{file.fileno()}"]
+        path = f"/proc/self/fd/{file.fileno()}"
+
+        def also(reviewed: Reviewed, firsts: Firsts) -> Dict[str, Any]:
+            return {"is_first": is_first(first, reviewed, firsts)}
 
         def verify() -> int:
             BUDGET.renew()
-            return main(words)
+            try:
+                fields = verdict_on(self._judges, path, self._judges.trust, also)
+            except (Fault, OSError) as fault:
+                fields = {"status": 2, "said": str(fault)}
+            put(out, compact(fields).encode("ascii"))
+            finish(out)
+            return 0
 
         with self._workplace.new_file("verdict") as out, self._workplace.new_file("verdict-said") as said:
-            status = self._workplace.fork(verify, out, said).wait()
-            if status not in (0, 1):
-                raise Fault(last_line(os.pread(said.fileno(), MOST_SAID, 0), words[-1]))
+            status = self._workplace.fork(verify, said, said).wait()
             out.seek(0)
-            lines = [it for it in out if it.startswith((b'{"line":"checked"', b'{"line":"verdict"'))]
-        return self._judge(status, lines, first)
-
-    @staticmethod
-    def _judge(status: int, lines: List[bytes], first: First) -> str:
-        """Judges what was printed. A clean file of one group in the order of its numbers has number 1 as its first message."""
-        try:
-            given, verdict = json.loads(lines[0])["files"][0], json.loads(lines[-1])
-            if status:
-                raise Fault(verdict["verdict"])
-            group, = verdict["groups"]
-            names = " ".join(group[it] for it in ("host", "app", "procid"))
-            if (names, group["rsid"], group["last"]) != (spelled(first.names), first.link.rsid, verdict["listed"]):
-                raise Fault("its link isn't the first message of its session")
-            return str(given["plain_sha256"] or given["sha256"])
-        except (ValueError, KeyError, IndexError, TypeError) as fault:
-            raise Fault("what was said of it can't be read: this is a mistake of ssign-keys") from fault
+            fields: Dict[str, Any] = json.loads(out.read()) if status == 0 else {}
+        if fields.get("status") != 0:
+            raise Fault(str(fields.get("said", "verify ended by a signal")).replace(f"the log {path} ", "it "))
+        if not fields["is_first"]:
+            raise Fault("its link isn't the first message of its session")
+        return str(fields["sha256"])
 
 
-def last_line(said: bytes, path: str) -> str:
-    """Why there is no verdict."""
-    lines = said.decode("utf-8", "backslashreplace").strip().splitlines()
-    return lines[-1].replace("ssign-keys: ", "", 1).replace(f"the log {path} ", "it ") if lines else "verify ended by a signal"
+def is_first(first: First, reviewed: Reviewed, firsts: Firsts) -> bool:
+    """Whether a message is listed as number 1 of the one session, which has its names and its RSID."""
+    host, app, procid = first.names.split(b" ")
+    session = Session(host, app, procid, b"%d" % first.link.rsid)
+    found = [reviewed.inspected.find(it, LONGEST_LINK) for it in firsts.places]
+    return list(firsts.places.values()) == [session] and set(reviewed.survey.joined) == {session} and \
+        [(it.octets, it.text) for it in found] == [(len(first.message), first.message)]

@@ -6,7 +6,7 @@ import contextlib
 import json
 import os
 from array import array
-from typing import AbstractSet, Any, Dict, Iterator, List, NamedTuple, Optional, Sequence, Set, Tuple
+from typing import AbstractSet, Any, Callable, Dict, Iterator, List, NamedTuple, Optional, Sequence, Set, Tuple
 
 from ..block_facts import Notes
 from ..blocks import Session
@@ -27,6 +27,7 @@ from ..verdict import sentence
 from ..runs import Runs
 from ..shown import Shown
 from ..survey import Survey
+from ..trust import Trust
 from ..verifier import Missing, Verifier
 from ..workplace import Workplace, finish, put
 from .keys import Judges
@@ -92,9 +93,16 @@ def link_in(message: bytes, session: Session) -> Optional[Stated]:
 
 def judge(judges: Judges, work: Work) -> Dict[str, Any]:
     """The verdict on a file, and what its chain message says. Raises Fault where the file can't be read."""
-    progress, arguments = Progress(), argparse.Namespace(**{**vars(judges.arguments), "logs": [work.path]})
+    fields = verdict_on(judges, work.path, judges.trust_at(work.seen, work.how), of_session)
+    return {"session": None, "key": None, "link": None, **fields}
+
+
+def verdict_on(judges: Judges, path: str, trust: Trust, also: Callable[[Reviewed, Firsts], Dict[str, Any]]) -> Dict[str, Any]:
+    """The SHA-256, the status and the verdict of a file; and more of it, unless ssign refuses the file. Raises Fault where it
+    can't be read."""
+    progress, arguments = Progress(), argparse.Namespace(**{**vars(judges.arguments), "logs": [path]})
     with Workplace() as workplace:
-        log = open_log([work.path], False, workplace, progress, arguments.max_expanded)
+        log = open_log([path], False, workplace, progress, arguments.max_expanded)
         log.longest = longest(arguments)
         found: List[Firsts] = []
 
@@ -105,12 +113,12 @@ def judge(judges: Judges, work: Work) -> Dict[str, Any]:
 
         verifier = Verifier(Runs(judges.program, arguments, log, workplace, progress), Missing([], None), None, choose, True)
         try:
-            reviewed = verifier.review(judges.trust_at(work.seen, work.how), NONE)
+            reviewed = verifier.review(trust, NONE)
         except Refused as refused:
             said = str(fault_of(refused, judges.program, arguments, log) or "it is refused")
-            return {"sha256": log.sums()[0][1], "status": 2, "said": said, "session": None, "key": None, "link": None}
+            return {"sha256": log.sums()[0][1], "status": 2, "said": said}
         firsts = found[-1]
-        fields = of_session(reviewed, firsts)
+        fields = also(reviewed, firsts)
         log.check_unchanged()
         said = sentence(reviewed.facts)
         said = f"{firsts.why}. {said}" if firsts.why and reviewed.facts.status else said
