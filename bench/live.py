@@ -64,8 +64,9 @@ def message(number):
 
 def words_of(folder, key, *options):
     """How `live` is started, with what it costs in a file."""
-    return [sys.executable, "-B", "-c", COUNTED, f"{ROOT}/tools", f"{folder}/cost", "live", f"--key={key}", f"--state={folder}/state",
-            f"--out={folder}/out", "--host=gate.example.org", "--heartbeat=0", f"--ssign={PROGRAM}", *options]
+    os.makedirs(f"{folder}/out", exist_ok=True)
+    return [sys.executable, "-B", "-c", COUNTED, f"{ROOT}/tools", f"{folder}/cost", "live", f"--key={key}",
+            f"--folder={folder}/out", "--host=gate.example.org", "--heartbeat=0", f"--ssign={PROGRAM}", *options]
 
 
 def cost_of(folder):

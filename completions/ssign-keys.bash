@@ -7,7 +7,7 @@ _ssign_keys_offer() {
     [[ $current == = ]] && current=
     case $1 in
     words) mapfile -t COMPREPLY < <(compgen -W "$2" -- "$current") ;;
-    codes) mapfile -t COMPREPLY < <(compgen -W 'F1 F2 F3 F4 F5 F9 A1 A2 A3 A4 Q1 D1 C1 C2 C3 C4 C5 C6 N1 N2 N3 N4 V1 E1 E2 W1 W2 P1 P2 O1 O2 O3 O6 O7 O8 O9 O10 O11 verified unverified missing unannounced session ok gap lost hole early beyond blocks tail tally disorder unlisted refused spoilt damaged unlisted-count refused-count spoilt-count damaged-count torn signature-block certificate-block sha1 not-ignored none-listed empty end joined disputed incomplete malformed untrusted unaccepted absent plain unparsed signature certificate wrapped-plain wrapped-unparsed wrapped-signature wrapped-certificate wrapped-spoilt count want seal payload trust\? yes\? M1 M2 M3 M4 M5 M6 M7 M8 M9 M10 M11 M12 S1 S2 S3 S4 S5 S6 S7 S8 S9 L1 L2 L3 L4 L5 L6 L7 T1 T2 T3 T4 gone unproved manifest SHA-1 strangers' -- "$current") ;;
+    codes) mapfile -t COMPREPLY < <(compgen -W 'F1 F2 F3 F4 F5 F9 A1 A2 A3 A4 Q1 D1 C1 C2 C3 C4 C5 C6 N1 N2 N3 N4 V1 E1 E2 W1 W2 P1 P2 O1 O2 O3 O6 O7 O8 O9 O10 O11 verified unverified missing unannounced session ok gap lost hole early beyond blocks tail tally disorder unlisted refused spoilt damaged unlisted-count refused-count spoilt-count damaged-count torn signature-block certificate-block sha1 not-ignored none-listed empty end joined disputed incomplete malformed untrusted unaccepted absent plain unparsed signature certificate wrapped-plain wrapped-unparsed wrapped-signature wrapped-certificate wrapped-spoilt count want seal payload trust\? yes\? M1 M2 M3 M4 M5 M6 M7 M8 M9 M10 M11 M12 S1 S2 S3 S4 S5 S6 S7 S8 S9 T1 T2 T3 T4 gone unproved manifest SHA-1 strangers' -- "$current") ;;
     files)
         compopt -o filenames 2>/dev/null
         mapfile -t COMPREPLY < <(compgen -f -- "$current")
@@ -73,34 +73,23 @@ _ssign_keys() {
     'sign --frag') _ssign_keys_offer text ;;
     'sign --copies') _ssign_keys_offer text ;;
     'sign --ssign') _ssign_keys_offer files ;;
-    'live --state') _ssign_keys_offer folders ;;
-    'live --out') _ssign_keys_offer folders ;;
+    'live --stamp-command') _ssign_keys_offer text ;;
+    'live --status') _ssign_keys_offer files ;;
     'live --messages') _ssign_keys_offer text ;;
     'live --seconds') _ssign_keys_offer text ;;
-    'live --rotate-size') _ssign_keys_offer text ;;
     'live --heartbeat') _ssign_keys_offer text ;;
-    'live --stamp-command') _ssign_keys_offer text ;;
-    'live --tsa') _ssign_keys_offer text ;;
-    'live --tsa-seconds') _ssign_keys_offer text ;;
-    'live --status') _ssign_keys_offer files ;;
+    'live --rotate-size') _ssign_keys_offer text ;;
     'live --key') _ssign_keys_offer files ;;
     'live --seal-command') _ssign_keys_offer text ;;
     'live --public') _ssign_keys_offer files ;;
-    'live --tsa-ca') _ssign_keys_offer files ;;
-    'live --tsa-ca-anchor') _ssign_keys_offer files ;;
     'live --journal') _ssign_keys_offer text ;;
+    'live --folder') _ssign_keys_offer folders ;;
     'live --host') _ssign_keys_offer text ;;
     'live --app') _ssign_keys_offer text ;;
     'live --procid') _ssign_keys_offer text ;;
-    'live --msgid') _ssign_keys_offer text ;;
-    'live --pri') _ssign_keys_offer text ;;
     'live --payload') _ssign_keys_offer text ;;
-    'live --ver') _ssign_keys_offer words '0111 0121' ;;
-    'live --groups') _ssign_keys_offer words 'one pri' ;;
     'live --count') _ssign_keys_offer text ;;
     'live --frag') _ssign_keys_offer text ;;
-    'live --copies') _ssign_keys_offer text ;;
-    'live --manifest') _ssign_keys_offer files ;;
     'live --ssign') _ssign_keys_offer files ;;
     'verify --manifest-seen') _ssign_keys_offer text ;;
     'verify --key') _ssign_keys_offer files ;;
@@ -169,7 +158,6 @@ _ssign_keys() {
     'seal --host') _ssign_keys_offer text ;;
     'seal --app') _ssign_keys_offer text ;;
     'seal --procid') _ssign_keys_offer text ;;
-    'seal --ssign') _ssign_keys_offer files ;;
     'answer --session-key') ;;
     'answer --ca') _ssign_keys_offer files ;;
     'answer --ca-anchor') _ssign_keys_offer files ;;
@@ -178,7 +166,6 @@ _ssign_keys() {
     'answer --seen') _ssign_keys_offer text ;;
     'answer --max-payload') _ssign_keys_offer text ;;
     'answer --jobs') _ssign_keys_offer text ;;
-    'answer --ssign') _ssign_keys_offer files ;;
     'explain --ssign') _ssign_keys_offer files ;;
     *) _ssign_keys_words "$command" "$current" ;;
     esac
@@ -201,7 +188,7 @@ _ssign_keys_words() {
             _ssign_keys_offer files
         fi
         ;;
-    live) _ssign_keys_offer words '--help --state --out --new-session --keep-session --omprog --messages --seconds --rotate-size --rotate-daily --heartbeat --wrap --no-wrap --stamp-command --tsa --tsa-seconds --status --key --seal-command --public --tsa-ca --tsa-ca-anchor --lines --journal --host --app --procid --msgid --pri --payload --ver --groups --count --frag --copies --manifest --ssign' ;;
+    live) _ssign_keys_offer words '--help --omprog --stamp-command --status --messages --seconds --heartbeat --rotate-size --rotate-daily --key --seal-command --public --lines --journal --folder --host --app --procid --payload --count --frag --ssign' ;;
     verify)
         if [[ $2 == -* ]]; then
             _ssign_keys_offer words '--help --any-order --manifest-seen --key --session-key --ca --ca-anchor --cert --trust --seen --at-signing-time --allow-sha1 --ignore-strangers --tsa-ca --tsa-ca-anchor --lines --frames --max-len --max-messages --max-expanded --max-payload --whole --from --counters --nights --manifest --from-manifest --manifest-last --stamped --findings --details --hostname --raw --json --html --answers-out --counters-out --jobs --ssign'
@@ -239,14 +226,14 @@ _ssign_keys_words() {
         ;;
     seal)
         if [[ $2 == -* ]]; then
-            _ssign_keys_offer words '--help --state --new-state --each --rsid --host --app --procid --ssign'
+            _ssign_keys_offer words '--help --state --new-state --each --rsid --host --app --procid'
         else
             _ssign_keys_offer files
         fi
         ;;
     answer)
         if [[ $2 == -* ]]; then
-            _ssign_keys_offer words '--help --session-key --ca --ca-anchor --cert --trust --seen --at-signing-time --max-payload --jobs --ssign'
+            _ssign_keys_offer words '--help --session-key --ca --ca-anchor --cert --trust --seen --at-signing-time --max-payload --jobs'
         else
             _ssign_keys_offer files
         fi

@@ -16,10 +16,10 @@ cd -- "$root" || exit 1
 longest=1800
 # the scripts that take longest begin first, so that none of them is alone at the end
 first=(setup verify live large refusals kept archive salvage_keys keys salvage stamps disputes answers-out linear strangers mistakes ssign sealing deliveries
-    verdict reports bombs manifest)
+    verdict reports bombs)
 # those that take minutes of a processor: all others together take less than ten minutes of four
-slow=(live verify refusals months stamps check verdict salvage_keys cost linear strangers disputes mistakes kept between
-    sealing sessions sign_folder page chains reports bombs keys setup trust_file asking parts answers-out manifest install
+slow=(live verify refusals stamps check verdict salvage_keys cost linear strangers disputes mistakes kept between
+    sealing sign_folder page chains reports bombs keys setup trust_file asking parts answers-out install
     check_memory salvage live_seal)
 
 usage() {

@@ -217,12 +217,11 @@ export CHANGE=$in_place
 keys verify --key keys/public-key.pem --ssign ./changing signed stored
 holds 'a copy of several logs is not changed' test "$status" = 1
 
-# a log that is changed through a map of its pages, which leaves its size and its times as they were: what a second run is handed, and
-# what a manifest is compared with, has the SHA-256 of the octets that were reviewed, or nothing is shown
+# a log that is changed through a map of its pages, which leaves its size and its times as they were: what a second run is handed has the
+# SHA-256 of the octets that were reviewed, or nothing is shown
 seq -f '<13>1 - gate app - - - message %.0f of a log that is longer than what is read of it at once' 20000 >long
 keys sign --key keys/private-key.pem --ver 0121 --host gate --app signer --rsid 2 --lines long
 cp out mapped
-cp out unmapped
 mkfifo toggle toggled
 cat >mapper.py <<'END'
 """Maps a log, whose pages are written to once, and changes an octet of a message near its end each time it is asked to."""
@@ -247,10 +246,10 @@ toggle() {
     echo x >toggle
     cat toggled >fault
 }
-# before the review, or after it, the log is changed
+# after the review the log is changed
 # shellcheck disable=SC2016
 printf '#!/usr/bin/env bash\nchange() {\n    [[ $1 != "review $WHEN" ]] || { echo x >toggle; cat toggled >/dev/null; }\n}\n
-change "$1 before"\n%q "$@"\nstatus=$?\nchange "$1 after"\nexit $status\n' "$program" >mapping
+%q "$@"\nstatus=$?\nchange "$1 after"\nexit $status\n' "$program" >mapping
 chmod +x mapping
 for form in --json --details --html=page; do
     WHEN=never keys verify --key keys/public-key.pem --ssign ./mapping "$form" mapped
@@ -261,14 +260,6 @@ for form in --json --details --html=page; do
     holds "a log that is changed after its review, $form: no page" test ! -e page
     toggle
 done
-: >manifest
-keys verify --key keys/public-key.pem --counters-out counters unmapped
-mv mapped kept-mapped && ln kept-mapped signed.mapped
-keys manifest add manifest signed.mapped --counters counters
-holds 'a manifest names the mapped log' test "$status" = 0
-WHEN=before keys verify --key keys/public-key.pem --ssign ./mapping --manifest manifest signed.mapped
-refuses 'a log that is changed after it was compared with a manifest' "ssign-keys: the log signed.mapped was changed while it was read: run again, or hand over a copy"
-toggle
 kill "$mapper"
 
 printf '%s: %d runs of ssign-keys\n' "$name" "$tried"

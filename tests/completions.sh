@@ -72,12 +72,10 @@ values() {
 behind() {
     case "$1 $2" in
     'ssign explain') tr ' ' '\n' <<<"$codes" ;;
-    'ssign-keys explain') tr ' ' '\n' <<<"$codes L1 L2 L3 L4 L5 L6 L7 T1 T2 T3 T4 gone unproved manifest SHA-1 strangers" ;;
+    'ssign-keys explain') tr ' ' '\n' <<<"$codes T1 T2 T3 T4 gone unproved SHA-1 strangers" ;;
     *' help') commands "$1" | grep -vx help ;;
     # it has options alone
     'ssign-keys live') return 1 ;;
-    # what it does is no file
-    'ssign-keys manifest') echo ;;
     'ssign-keys make' | 'ssign-keys check') echo sub ;;
     'ssign-keys '* | 'ssign-archive split') lines "$here" ;;
     'ssign-archive join') echo sub ;;

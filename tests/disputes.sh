@@ -333,22 +333,11 @@ sys.stdout.buffer.write(b"".join(it + b"\n" for it in frames(sys.stdin.buffer.re
 keys verify "${key[@]}" --ignore-strangers lines
 holds 'lines: status 0' test "$status" = 0
 
-mkdir nights
-cp log nights/first.frames
-: >manifest
-keys manifest add manifest nights/first.frames --counters counters
-holds 'a manifest names the night' test "$status" = 0
-keys verify "${key[@]}" --nights manifest nights
-holds 'all nights: status 1' test "$status" = 1
-holds 'all nights: the night' test "$(head -n 1 out)" = "Night 1 (entry 1, first.frames): FINDINGS: of 10 announced messages 10 are \
-present and unchanged; 7 blocks are unverified. Nothing is missing between the counters."
-keys verify "${key[@]}" --ignore-strangers --nights manifest nights
-holds 'all nights, ignored: status 0' test "$status" = 0
-holds 'all nights, ignored: the verdict' test "$(verdict)" = "Night 1: clean; numbers 1 to 10 are there, each once, and nothing else \
-is. 7 unverified blocks were ignored: they claim joined sessions, aren't validly signed, and change nothing."
-frame 'a message that nobody signed' >>nights/first.frames
-keys verify "${key[@]}" --ignore-strangers --nights manifest nights
-holds 'all nights, and an unlisted message: status 1' test "$status" = 1
+keys verify "${key[@]}" --from none --counters counters log
+holds 'one night, and strangers count: status 1' test "$status" = 1
+{ cat log && frame 'a message that nobody signed'; } >unlisted
+keys verify "${key[@]}" --from none --counters counters --ignore-strangers unlisted
+holds 'one night, and an unlisted message: status 1' test "$status" = 1
 
 # ---- fragments of a stranger that spell the payloads of several sessions
 for it in 1 2 3; do

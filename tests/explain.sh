@@ -152,7 +152,7 @@ done
 
 # ---- ssign-keys explain
 # its own codes
-own=(L1 L2 L3 L4 L5 L6 L7 T1 T2 T3 T4)
+own=(T1 T2 T3 T4)
 explained() {
     SSIGN=$program timeout "$patience" "$root/tools/ssign-keys" explain "$@" >"$scratch/out" 2>"$scratch/err" </dev/null
     status=$?
@@ -187,7 +187,7 @@ if python3 -c 'import cryptography' 2>"$scratch/err"; then
     holds 'ssign-keys explain --json begins as that of ssign' cmp -- <(head -n "$(wc -l <"$scratch/all")" "$scratch/out") "$scratch/all"
     of_verdict=$(tail -n +"$(($(wc -l <"$scratch/all") + ${#own[@]} + 1))" "$scratch/out" | sed -E 's/.*"code":"([^"]*)".*/\1/' | tr '\n' ,)
     holds 'its own codes follow, and the words of a verdict that no report has' \
-        test "$of_verdict" = 'gone,changed or replaced,missing up to the counters,unproved,missing blocks,out of order,manifest,not joined,SHA-1,strangers,'
+        test "$of_verdict" = 'gone,changed or replaced,missing up to the counters,unproved,missing blocks,out of order,not joined,SHA-1,strangers,'
     explained out of order
     expect 'ssign-keys explain out of order' 0 "Of a group that is out of order: listed messages don't stand in the order of their numbers." ''
     explained Unproved

@@ -42,7 +42,7 @@ hostile() {
     tell "$what, which isn't read on" "$taken"
 }
 
-list_commands plan sign describe explain
+list_commands plan sign describe live explain
 for command in "${commands[@]}"; do
     hostile "$command" 'random octets' 'ssign: F1 0' 'x' 0 ''
     hostile "$command" 'random octets behind a length of twenty digits' 'ssign: F2 4' '99999999999999999999' 0 ''

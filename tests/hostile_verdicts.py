@@ -19,7 +19,7 @@ from typing import Callable, Iterator, List, NamedTuple, Optional, Tuple
 
 from review_runs import frame, read_frames
 
-EMPTY = b"ssign-keys: warning: %s: the log is empty, so it shows nothing: only counters or a manifest show whether something is missing\n"
+EMPTY = b"ssign-keys: warning: %s: the log is empty, so it shows nothing: only counters show whether something is missing\n"
 NOTHING = "Nothing in this log is shown to be authentic. Whatever was signed may have been taken out."
 # claims of a verdict, none of which may stand in one on a log that was attacked
 CLAIMS = ("NOTHING WAS SIGNED", "nothing else", "each other stored message is a verified block", "All 10 ", "clean")

@@ -86,7 +86,7 @@ wanted=(bin/ssign bin/ssign-keys share/suhvatek/ssign-keys share/suhvatek/ssign_
 for file in "${wanted[@]}"; do
     holds "$file is installed" test -s "$usr/$file"
 done
-for file in "$root"/tools/ssign_{keys,keys/chain,keys/check,archive}/*.py; do
+for file in "$root"/tools/ssign_{keys,keys/chain,keys/check,keys/live,archive}/*.py; do
     holds "${file#"$root"/tools/} is installed" cmp "$file" "$usr/share/suhvatek/${file#"$root"/tools/}"
 done
 while IFS= read -r file; do

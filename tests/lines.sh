@@ -98,7 +98,7 @@ run extract --lines --answers "$root/examples/four-messages.answers" <"$log"
 holds 'an extract of lines' cmp -- "$scratch/out" <(head -c 64 -- "$root/examples/four-messages.frames")
 run extract --lines --answers "$root/examples/four-messages.answers" < <(head -c -1 -- "$log")
 expect 'an extract of a torn log' 1 '' ''
-list_commands review plan sign describe explain
+list_commands review plan sign describe live explain
 for command in "${commands[@]}"; do
     run "$command" --lines < <(printf 'a\n\nb\n')
     expect "$command: an empty line behind another" 2 '' 'ssign: F9 2'

@@ -7,22 +7,20 @@ made-up output of journalctl with long, odd and broken entries.
 KEYS is a folder of `ssign-keys make`. Messages that are wanted were written by hand, by RFC 5424, section 6, and
 systemd.journal-fields(7). The last line is `live_journal: N passed, M failed`.
 """
-import contextlib
-import functools
+import json
 import os
 import random
 import shlex
 import shutil
 import signal
 import subprocess
-import sys
 import time
 
-import live_runs
-from live_runs import KEYS, Process, differ, signer, tell
+import live_world
+from live_world import Live, differ, files, frames, links, lists, original, read, verified
 import skips
 
-from ssign_keys import keys, live_journal
+from ssign_keys.live import journal
 
 REMOTE = next((it for it in ("/lib/systemd/systemd-journal-remote", "/usr/lib/systemd/systemd-journal-remote") if os.path.exists(it)), None)
 BEGAN = 1795804252000000
@@ -41,8 +39,8 @@ CASES = [
       (b"_PID", b"1"), (b"SYSLOG_PID", b"2"), (b"MESSAGE", b"two\nlines\n")],
      b"<191>1 2026-11-27T18:30:52.000000Z h two_words___ 1 - - two\nlines\n"),
     ([(b"PRIORITY", b"8"), (b"SYSLOG_FACILITY", b"24"), (b"_HOSTNAME", b"h" * 300), (b"SYSLOG_IDENTIFIER", b"a" * 60),
-      (b"_PID", b"9" * 200), (b"MESSAGE", b"\x00\xff octets")],
-     b"<14>1 2026-11-27T18:30:52.000000Z " + b"h" * 255 + b" " + b"a" * 48 + b" " + b"9" * 128 + b" - - \x00\xff octets"),
+      (b"_PID", b"9" * 200), (b"MESSAGE", b"\x01\xff octets")],
+     b"<14>1 2026-11-27T18:30:52.000000Z " + b"h" * 255 + b" " + b"a" * 48 + b" " + b"9" * 128 + b" - - \x01\xff octets"),
     ([(b"MESSAGE_ID", b"39f53479d3a045ac8e11786248231fbf"), (b"_HOSTNAME", b"h"), (b"MESSAGE", b"Started.")],
      b"<14>1 2026-11-27T18:30:52.000000Z h - - 39f53479d3a045ac8e11786248231fbf - Started."),
     ([(b"MESSAGE_ID", b"wrapped"), (b"_HOSTNAME", b"h"), (b"MESSAGE", b"|no wrap")],
@@ -74,163 +72,147 @@ def numbered(number):
     return fields, b"<14>1 2026-11-27T18:30:52.%06dZ h app 1 - - message %d" % (number, number)
 
 
-def journal_of(it, octets):
+def line(number, fields, at=0):
+    """The same entry as journalctl writes it with --output=json."""
+    values = {"__CURSOR": "s=1;i=%x" % number, "__REALTIME_TIMESTAMP": str(BEGAN + at)}
+    for name, value in fields:
+        is_text = value.isascii() and all(it >= 32 or it in (9, 10) for it in value)
+        shown = value.decode() if is_text else list(value)
+        name = name.decode()
+        values[name] = [values[name], shown] if name in values else shown
+    return json.dumps(values).encode() + b"\n"
+
+
+def journal_of(folder, octets):
     """Has systemd-journal-remote put entries into a journal file."""
-    os.makedirs(it.path("journal"), exist_ok=True)
-    subprocess.run([REMOTE, f"--output={it.path('journal/one.journal')}", "-"], input=octets, check=True, capture_output=True)
+    os.makedirs(f"{folder}/journal", exist_ok=True)
+    subprocess.run([REMOTE, f"--output={folder}/journal/one.journal", "-"], input=octets, check=True, capture_output=True)
 
 
-def reader(it):
+def reader(folder):
     """The option that has journalctl read these files."""
-    return f"--journal=journalctl --directory={shlex.quote(it.path('journal'))}"
+    return f"--journal=journalctl --directory={shlex.quote(f'{folder}/journal')}"
 
 
-def wait_signed(it, count):
-    """Waits until so many messages have a block."""
-    return it.wait_for(lambda status: status["signed"] + status["aside"] >= count and not status["pending"])
+def stored(folder):
+    """The messages of all files, each as it was before a wrap."""
+    found = [original(it) for path in files(folder) for it in frames(read(path))]
+    return [it for it in found if b"[ssign" not in it and b" chain - " not in it]
 
 
-def real_entries():
-    """Each case, by a real journal file and a real journalctl, and an entry that comes while it is followed."""
-    with signer("--seconds=0.1") as it:
-        journal_of(it, b"".join(entry(n + 1, fields) for n, (fields, _) in enumerate(CASES)))
-        wanted = [message for _, message in CASES]
-        process = it.start(reader(it))
-        fault = wait_signed(it, len(wanted))
-        tell("entries of a journal", fault, differ("messages", it.originals(), wanted))
-        fields, message = numbered(1)
-        journal_of(it, entry(len(CASES) + 1, fields, 1))
-        fault = wait_signed(it, len(wanted) + 1)
-        status = process.end(signal.SIGTERM)
-        tell("an entry that comes", fault, differ("status", status, 0), *it.clean([*wanted, message]))
-        fields, second = numbered(2)
-        journal_of(it, entry(len(CASES) + 2, fields, 2))
-        process = it.start(reader(it))
-        fault = wait_signed(it, 1)
-        process.end(signal.SIGTERM)
-        tell("a restart goes on after the cursor", fault, *it.clean([*wanted, message, second]))
-        shown = subprocess.run(["journalctl", f"--directory={it.path('journal')}", "-n", "1", "--show-cursor"], capture_output=True, check=True)
-        tell("the cursor is the one that journalctl shows", differ("cursor", it.kept("journal-cursor"), [shown.stdout.split(b"-- cursor: ")[1]]))
+def real_entries(folder):
+    """Each case, by a real journal file and a real journalctl; an entry that comes while it is followed; and a restart."""
+    journal_of(folder, b"".join(entry(n + 1, fields) for n, (fields, _) in enumerate(CASES)))
+    wanted = [message for _, message in CASES]
+    live = Live(folder, reader(folder))
+    faults = [live.waits_for(confirmed=len(wanted)), differ("messages", stored(folder), wanted)]
+    fields, message = numbered(1)
+    journal_of(folder, entry(len(CASES) + 1, fields, 1))
+    faults += [live.waits_for(confirmed=len(wanted) + 1), differ("status", live.end(signal.SIGTERM), 0)]
+    fields, second = numbered(2)
+    journal_of(folder, entry(len(CASES) + 2, fields, 2))
+    live = Live(folder, reader(folder))
+    faults += [live.waits_for(confirmed=1), differ("status", live.end(signal.SIGTERM), 0)]
+    shown = subprocess.run(["journalctl", f"--directory={folder}/journal", "-n", "1", "--show-cursor"], capture_output=True, check=True)
+    return [*faults, *lists(folder, [*wanted, message, second]),
+            differ("cursor", read(f"{folder}/out/signer.cursor"), shown.stdout.split(b"-- cursor: ")[1])]
 
 
-def real_kills():
+def kills(folder):
     """Kills in full flow: no entry is lost, and what wasn't confirmed comes twice."""
-    rng = random.Random(3)
-    with signer("--seconds=0.1", "--messages=99") as it:
-        made = [numbered(n) for n in range(ENTRIES)]
-        journal_of(it, b"".join(entry(n + 1, fields, n) for n, (fields, _) in enumerate(made)))
-        for at in range(KILLS):
-            process = it.start(reader(it))
-            it.wait_for(lambda status: status["taken"] > 20 or status["running"] and at == 0)
-            time.sleep(rng.random() * .15)
-            process.end(signal.SIGKILL)
-        process = it.start(reader(it))
-        last = made[-1][1]
-        end = time.monotonic() + 30
-        while time.monotonic() < end and last not in it.originals():
-            time.sleep(0.1)
-        it.wait_for(lambda status: not status["pending"])
-        status = process.end(signal.SIGTERM)
-        found = it.originals()
-        tell("kills in full flow", differ("status", status, 0), *it.clean(),
-             differ("messages", list(dict.fromkeys(found)), [message for _, message in made]))
-        print(f"live_journal: {ENTRIES} entries, {KILLS} kills; signed twice, because the cursor wasn't kept: {len(found) - len(set(found))}")
-    with signer("--seconds=0.1") as it:
-        journal_of(it, b"".join(entry(n + 1, fields, n) for n, (fields, _) in enumerate(made[:5])))
-
-        def before():
-            live_journal.JournalLoop.keep_cursor = lambda self, cursor: os.kill(os.getpid(), signal.SIGKILL)
-
-        ended = it.start(reader(it), before=before).end(signal.SIGUSR1)
-        process = it.start(reader(it))
-        fault = it.wait_for(lambda status: status["signed"] >= 5 and not status["pending"])
-        process.end(signal.SIGTERM)
-        found = it.originals()
-        tell("a kill before the cursor is kept", fault, "it wasn't killed" if ended == 0 else "", *it.clean(),
-             differ("messages", list(dict.fromkeys(found)), [message for _, message in made[:5]]))
-
-
-def made_up():
-    """Output of a command in place of journalctl: in pieces, with long fields, and what isn't of the format."""
-    long_text, long_line = b"x\n" * 700000, b"y" * 1500000
-    fields = [numbered(n)[0] for n in range(4)]
-    octets = b"".join([entry(1, fields[0]), entry(2, [*fields[1][:4], (b"MESSAGE", long_text)]), entry(3, fields[1]),
-                       entry(4, [*fields[2][:4], (b"MESSAGE", long_line)]), entry(5, fields[2]),
-                       entry(6, [*fields[2][:4], (b"MESSAGE", b"z" * 1048570)]), entry(7, fields[3])])
-    wanted = [numbered(n)[1].replace(b".%06d" % n, b".000000") for n in range(4)]
-    with signer("--seconds=0.1") as it:
-        put_command(it, octets)
-        process = it.start(f"--journal={it.path('reader')}")
-        fault = it.wait_for(lambda status: status["signed"] >= 4)
-        status = process.end(signal.SIGTERM)
-        aside = b"".join(b"".join(live_runs.split_frames(each)[0]) for each in it.kept("aside-"))
-        header = b"<14>1 2026-11-27T18:30:52.000000Z h app 1 - - "
-        tell("fields that are too long", fault, differ("status", status, 0), *it.clean(wanted),
-             "" if aside == long_text + b"\n" + long_line + b"\n" + header + b"z" * 1048570 else f"aside {len(aside)}, {aside[-40:]}")
-    small = b"".join(entry(n + 1, fields) for n, (fields, _) in enumerate(CASES))
-    for size in (1, 7, 64):
-        with signer("--seconds=0.1") as it:
-            put_command(it, small)
-
-            def before(size=size):
-                live_journal.PIECE = size
-
-            process = it.start(f"--journal={it.path('reader')}", before=before)
-            fault = it.wait_for(lambda status: status["signed"] >= len(CASES), 60)
-            process.end(signal.SIGTERM)
-            tell(f"entries in pieces of {size}", fault, *it.clean([message for _, message in CASES]))
-    for what, text, words in (("no field", b"what\xff is this\n", "it has to be journalctl"), ("no cursor", b"MESSAGE=x\n\n", "without a cursor"),
-                              ("nothing", b"", "ended with the status 3"), ("half an entry", entry(2, fields[1])[:-9], "ended with the status 3")):
-        with signer("--seconds=0.1") as it:
-            put_command(it, entry(1, fields[0]) + text, end="exit 3")
-            process = it.start(f"--journal={it.path('reader')}")
-            status = process.end_by_itself()
-            tell(f"a journal command that writes {what}", differ("status", status, 2), "" if words in process.said else process.said,
-                 *([] if what in ("no field", "no cursor") else it.clean(wanted[:1])))
-    with signer() as it:
-        for words, said in ((["--journal=/nothing/here"], "can't be run"), (["--journal="], "is empty"), (["--journal='"], "can't read it"),
-                            (["--journal=cat", "--lines"], "goes without")):
-            process = it.start(*words)
-            tell(f"the mistake {words}", differ("status", process.end_by_itself(), 2), "" if said in process.said else process.said)
-        with open(it.path("state/journal-cursor"), "wb") as file:
-            file.write(b"no cursor\n")
-        process = it.start("--journal=journalctl")
-        tell("a damaged cursor", differ("status", process.end_by_itself(), 2), "" if "holds no cursor" in process.said else process.said)
-
-
-def put_command(it, octets, end="sleep 100"):
-    """A command that writes these octets, whatever its options are, and then ends so."""
-    with open(it.path("octets"), "wb") as file:
-        file.write(octets)
-    with open(it.path("reader"), "w", encoding="utf-8") as file:
-        file.write(f"#!/bin/sh\ncat {shlex.quote(it.path('octets'))}\n{end}\n")
-    os.chmod(it.path("reader"), 0o755)
-
-
-def end_by_itself(self):
-    """The status of a process that ends while its input is open."""
-    _, ended = os.waitpid(self.child, 0)
-    self.status = os.waitstatus_to_exitcode(ended)
-    with contextlib.suppress(OSError):
-        self.to.close()
-    self.answers.close()
-    return self.status
-
-
-def main():
-    """Makes all checks."""
-    Process.end_by_itself = end_by_itself
-    keys.key_fault = functools.lru_cache(keys.key_fault)
-    keys.read_private_key(f"{KEYS}/private-key.pem")
+    rng, made = random.Random(3), [numbered(n) for n in range(ENTRIES)]
     if REMOTE is None or shutil.which("journalctl") is None:
         skips.skip("live_journal", "journal files, because systemd-journal-remote or journalctl isn't here (./setup tools)")
+        # a command that goes on after the cursor
+        with open(f"{folder}/lines", "wb") as file:
+            file.write(b"".join(line(n + 1, fields, n) for n, (fields, _) in enumerate(made)))
+        put(folder, f"""for word; do case $word in --after-cursor=*) from=${{word##*i=}}; esac; done
+tail -n +$((0x${{from:-0}} + 1)) {folder}/lines | while read -r it; do echo "$it"; done""")
+        given = f"--journal={folder}/reader"
     else:
-        real_entries()
-        real_kills()
-    made_up()
-    print(f"live_journal: {live_runs.passed} passed, {live_runs.failed} failed{skips.more()}")
-    return 1 if live_runs.failed else 0
+        journal_of(folder, b"".join(entry(n + 1, fields, n) for n, (fields, _) in enumerate(made)))
+        given = reader(folder)
+    for _ in range(KILLS):
+        live, count = Live(folder, given), len(stored(folder)) if os.path.exists(f"{folder}/out") else 0
+        live_world.wait_until(lambda: os.path.exists(f"{folder}/out") and len(stored(folder)) > count + 20, 10)
+        time.sleep(rng.random() * .15)
+        live.process.kill()
+    live = Live(folder, given)
+    last = made[-1][1]
+    faults = ["the last entry never came"] * (not live_world.wait_until(lambda: last in stored(folder)))
+    faults += [live.waits_for(unsigned=0), differ("status", live.end(signal.SIGTERM), 0), *links(folder), *verified(folder)[1]]
+    found = stored(folder)
+    print(f"live_journal: {ENTRIES} entries, {KILLS} kills; signed twice, because the cursor wasn't kept: {len(found) - len(set(found))}")
+    return [*faults, differ("messages", sorted(set(found)), sorted(message for _, message in made))]
+
+
+def pieces(folder):
+    """Output of a command in place of journalctl, in pieces"""
+    faults = []
+    for size in (1, 7, 64):
+        where = f"{folder}/{size}"
+        os.mkdir(where)
+        put(where, b"".join(line(n + 1, fields) for n, (fields, _) in enumerate(CASES)))
+
+        def before(size=size):
+            journal.PIECE = size
+
+        live = Live(where, f"--journal={where}/reader", before=before)
+        faults += [live.waits_for(confirmed=len(CASES)), differ("status", live.end(signal.SIGTERM), 0)]
+        faults.append(differ(f"pieces of {size}", stored(where), [message for _, message in CASES]))
+    return faults
+
+
+def long_fields(folder):
+    """Messages that are too long are set aside, and the entries around them are signed"""
+    texts = [b"x\n" * 700000, b"\xff" * 3000000, b"z" * 1048570]
+    entries = [numbered(n) for n in range(6)]
+    octets = b""
+    for n, (fields, _) in enumerate(entries):
+        octets += line(n + 1, [*fields[:4], (b"MESSAGE", texts[n // 2])] if n % 2 else fields, n)
+    put(folder, octets)
+    live = Live(folder, f"--journal={folder}/reader")
+    faults = [live.waits_for(confirmed=3), live.waits_for(set_aside=3), differ("status", live.end(signal.SIGTERM), 0)]
+    aside = b"".join(frames(read(f"{folder}/out/signer.set-aside")))
+    return [*faults, *lists(folder, [entries[n][1] for n in (0, 2, 4)]), differ("set aside", [texts[0] in aside, texts[2] in aside], [True, True]),
+            differ("octets as numbers", aside.count(b"255") >= 3000000, True)]
+
+
+def mistakes(folder):
+    """What isn't of journalctl ends live, after what stood before is signed"""
+    faults = []
+    for n, (text, words) in enumerate(((b"what is this\n", "no entry of journalctl"), (b'{"MESSAGE":"x"}\n', "no entry of journalctl"), (b"[1]\n", "no entry"),
+                                       (b"", "ended with the status 3"), (line(2, numbered(1)[0])[:-9], "ended with the status 3"))):
+        where = f"{folder}/{n}"
+        os.mkdir(where)
+        put(where, line(1, numbered(0)[0]) + text, end="exit 3")
+        live = Live(where, f"--journal={where}/reader")
+        faults += [differ(f"{text}: status", live.process.wait(), 2), f"{text}: it says {live.words()}" * (words not in live.words())]
+        if not n > 2:
+            continue
+        faults += lists(where, [numbered(0)[1]])
+    for words, said in ((["--journal=/nothing/here"], "can't be used"), (["--journal="], "can't be used"), (["--journal='"], "can't be used"),
+                        (["--journal=cat", "--lines"], "not allowed")):
+        live = Live(folder, *words)
+        faults += [differ(f"{words}: status", live.process.wait(), 2), f"{words}: it says {live.words()}" * (said not in live.words())]
+    with open(f"{folder}/out/signer.cursor", "wb") as file:
+        file.write(b"no cursor\n")
+    live = Live(folder, "--journal=journalctl")
+    return [*faults, differ("a damaged cursor: status", live.process.wait(), 2), "" if "holds no cursor" in live.words() else live.words()]
+
+
+def put(folder, octets, end="sleep 100"):
+    """A command that writes these octets, or is this script, whatever its options are, and then ends so."""
+    act = octets
+    if isinstance(octets, bytes):
+        with open(f"{folder}/octets", "wb") as file:
+            file.write(octets)
+        act = f"cat {folder}/octets"
+    with open(f"{folder}/reader", "w", encoding="utf-8") as file:
+        file.write(f"#!/bin/sh\n{act}\n{end}\n")
+    os.chmod(f"{folder}/reader", 0o755)
 
 
 if __name__ == "__main__":
-    sys.exit(main())
+    real = [] if REMOTE is None or shutil.which("journalctl") is None else [real_entries]
+    live_world.checks(*real, kills, pieces, long_fields, mistakes)

@@ -1,6 +1,6 @@
 #!/usr/bin/env bash
-# Where `ssign-keys live` gets its messages from: the journal of systemd, in live_journal.py; syslog-ng, in live_syslog_ng.py; and
-# a plain pipe. The examples for rsyslog and a container, and the units with the key under another user, which systemd checks, and which are tried
+# Where `ssign-keys live` gets its messages from: the journal of systemd, in live_journal.py; rsyslog, in live_rsyslog.py; syslog-ng,
+# in live_syslog_ng.py; and a plain pipe. The examples for rsyslog and a container, and the units with the key under another user, which systemd checks, and which are tried
 # with two users where this is root.
 # shellcheck source=tests/lib.sh
 . "$(dirname -- "$0")/lib.sh"
@@ -29,13 +29,19 @@ else
     skip "no syslog-ng here (apt-get install syslog-ng-core), so it hands nothing over"
 fi
 
+if command -v rsyslogd >found && ls /usr/lib/*/rsyslog/omprog.so >found 2>&1; then
+    adds 'rsyslog' python3 -B "$root/tests/live_rsyslog.py" "$program" keys
+else
+    skip "no rsyslogd with omprog here (apt-get install rsyslog), so it hands nothing over"
+fi
+
 # ---- a plain pipe
 { echo '<13>1 - gate.example.org app - - - one'; echo 'two'; } |
-    "$keys_program" live --key keys/private-key.pem --state pipe --out piped --host gate.example.org --lines
+    "$keys_program" live --key keys/private-key.pem --folder piped --host gate.example.org --lines
 holds 'a pipe' test "${PIPESTATUS[1]}" = 0
-"$keys_program" verify --key keys/public-key.pem --counters pipe/counters-* piped/*.frames >out 2>err
+"$keys_program" verify --key keys/public-key.pem piped/*.open >out 2>err
 holds 'a pipe: the status of verify' test $? = 0
-holds 'a pipe: both messages' grep -q 'numbers 1 to 2: 2 listed' out
+holds 'a pipe: both messages and the chain message' grep -q 'All 3 announced messages are present' out
 
 # ---- the examples for daemons
 # options FILE: the options of the `live` that a file starts, each of which has to be one.
@@ -74,7 +80,7 @@ units=$root/examples/systemd
 # words UNIT: its command, with the folders of this test, as words of a shell.
 words() {
     sed -n 's/^ExecStart=//p' "$units/$1" | sed "s:/usr/bin/ssign-keys:$python -B $keys_program:; s:%d/:$scratch/seal/credentials/:; s:/etc/ssign/:$scratch/keys/:
-        s:/var/lib/ssign-seal/:$scratch/seal/:; s:/var/lib/ssign-live/:$scratch/live/:; s:/var/log/ssign-live:$scratch/live/out:
+        s:/var/lib/ssign-seal/:$scratch/seal/:; s:/var/log/ssign-live:$scratch/live/out:
         s:/run/ssign-seal.socket:$scratch/run/socket:; s:--journal journalctl:--journal $scratch/reader:; s:%H:$(uname -n):"
 }
 # by USER COMMAND..: runs a command as one of the users, as systemd would.
@@ -109,7 +115,7 @@ else
             cp keys/private-key.pem seal/credentials/private-key.pem
         fi
         chown "$sealing" seal/credentials/private-key.pem && chmod 400 seal/credentials/private-key.pem && chmod 600 keys/private-key.pem
-        printf '__CURSOR=s=%d\n__REALTIME_TIMESTAMP=1795804252000000\n_HOSTNAME=h\nSYSLOG_IDENTIFIER=app\nMESSAGE=message %d\n\n' 1 1 2 2 3 3 >entries
+        printf '{"__CURSOR":"s=%d","__REALTIME_TIMESTAMP":"1795804252000000","_HOSTNAME":"h","SYSLOG_IDENTIFIER":"app","MESSAGE":"message %d"}\n' 1 1 2 2 3 3 >entries
         printf '#!/bin/sh\ncat %s/entries\nsleep 100\n' "$scratch" >reader && chmod 755 reader entries
         seal=$(words ssign-seal@.service)
         # shellcheck disable=SC2086 # words
@@ -123,19 +129,19 @@ else
         # SocketUser=, SocketGroup= and SocketMode= of the unit
         chown "$(sed -n 's/^SocketUser=//p' "$units/ssign-seal.socket"):$signing" run/socket
         chmod "$(sed -n 's/^SocketMode=//p' "$units/ssign-seal.socket")" run/socket
-        printf 'exec timeout %d %s --heartbeat 0 --seconds 0.2 --status %s\n' "$patience" "$(words ssign-live.service)" "$scratch/live/status" >live.sh
+        printf 'exec timeout %d %s --heartbeat 0 --seconds 1 --status %s\n' "$patience" "$(words ssign-live.service)" "$scratch/live/status" >live.sh
         chmod 644 live.sh
         by "$signing" bash live.sh >said 2>&1 &
         live=$!
         started+=("$live")
-        for ((count = 0; count < 300; count++)); do grep -q '"signed": 3,' live/status 2>found && break; sleep 0.1; done
-        holds "two users: all is signed: $(head -c 300 said activate.log)" grep -q '"signed": 3,' live/status
+        for ((count = 0; count < 300; count++)); do grep -q '"signed": 4,' live/status 2>found && break; sleep 0.1; done
+        holds "two users: all is signed: $(head -c 300 said activate.log)" grep -q '"signed": 4,' live/status
         pgrep -P "$live" | xargs -r kill -TERM
         wait "$live"
-        "$keys_program" verify --key keys/public-key.pem --counters live/state/counters-* live/out/*.frames >out 2>err
+        "$keys_program" verify --key keys/public-key.pem live/out/*.open >out 2>err
         status=$?
         holds "two users: the status of verify: $(cat err)" test "$status" = 0
-        holds 'two users: each entry is listed' grep -q 'numbers 1 to 3: 3 listed' out
+        holds 'two users: each entry is listed' grep -q 'All 4 announced messages are present' out
         for file in keys/private-key.pem seal/credentials/private-key.pem seal/sealed; do
             holds "whoever signs can't read $file" test "$(by "$signing" cat "$scratch/$file" 2>found | wc -c)" = 0
         done

@@ -3,8 +3,7 @@
 
     live_rsyslog.py SSIGN KEYS [MESSAGES]
 
-Wanted with kills: each message is listed, in a joined session, with status 0 up to the kept counters; those that weren't
-confirmed may be there twice. Wanted of hostile senders over TCP, UDP, RELP and a socket of the machine, with control characters
+Wanted with kills: each message is listed, and each file has status 0; those that weren't confirmed may be there twice. Wanted of hostile senders over TCP, UDP, RELP and a socket of the machine, with control characters
 kept and escaped: as many messages are stored as were sent, each as rsyslog received it, and no HOSTNAME is one that no frame's
 own header has. The last line is `live_rsyslog: N passed, M failed`.
 """
@@ -105,7 +104,9 @@ def live_of(folder):
         try:
             if it.isdigit():
                 with open(f"/proc/{it}/cmdline", "rb") as file:
-                    if f"--state={folder}/state".encode() in file.read().split(b"\0"):
+                    words = file.read().split(b"\0")
+                    # and not the ssign that it runs
+                    if f"--folder={folder}/out".encode() in words and not any(it.startswith(b"--stem=") for it in words):
                         return int(it)
         except OSError:
             continue
@@ -131,15 +132,23 @@ def wait_until(what, seconds=PATIENCE):
     return False
 
 
+def stored_in(path):
+    """The messages and blocks of a file."""
+    sys.path.insert(0, os.path.join(ROOT, "tools"))
+    from ssign_keys.frames import frame_at
+    found, at = [], 0
+    with open(path, "rb") as file:
+        octets = file.read()
+    while at < len(octets):
+        start, length = frame_at(octets, at)
+        at = start + length if length else len(octets)
+        found += [octets[start:at]] * (start + length <= len(octets) and length > 0)
+    return found
+
+
 def stored(folder):
     """The messages and blocks of the output."""
-    sys.path.insert(0, os.path.join(ROOT, "tools"))
-    from ssign_keys.live_engine import split_frames
-    found = []
-    for it in files_of(folder):
-        with open(it, "rb") as file:
-            found += split_frames(file.read())[0]
-    return found
+    return [it for path in files_of(folder) for it in stored_in(path)]
 
 
 def originals(folder):
@@ -153,14 +162,15 @@ def names_of(messages):
 
 
 def is_ours(octets):
-    """Whether a message is a block of the signer."""
-    return re.match(rb"<110>1 \S+ %s signer \S+ \S+ \[ssign" % HOST.encode(), octets) is not None
+    """Whether a message is a block of the signer, or a chain message."""
+    return re.match(rb"<110>1 \S+ %s signer \S+ (\S+ \[ssign|chain -)" % HOST.encode(), octets) is not None
 
 
 def files_of(folder):
     """The files of the output, in their order."""
     out = os.path.join(folder, "out")
-    return [os.path.join(out, it) for it in sorted(os.listdir(out))] if os.path.isdir(out) else []
+    names = sorted(it for it in os.listdir(out) if it.endswith((".frames", ".open"))) if os.path.isdir(out) else []
+    return [it for it in (os.path.join(out, name) for name in names) if os.path.getsize(it)]
 
 
 def size_of(folder):
@@ -176,15 +186,16 @@ def free_port(kind=socket.SOCK_STREAM):
 
 
 def verdict(folder):
-    """The rows of `verify` up to the counters, and what is wrong with its status."""
-    counters = [it for it in os.listdir(f"{folder}/state") if it.startswith("counters-")]
-    words = [f"{ROOT}/tools/ssign-keys", "verify", f"--key={KEYS}/public-key.pem", "--json", f"--ssign={PROGRAM}", "--max-len=1048576",
-             f"--counters={folder}/state/{(counters or ['none'])[0]}", *files_of(folder)]
-    ran = subprocess.run(words, capture_output=True, check=False)
-    rows = [json.loads(it) for it in ran.stdout.splitlines()]
-    if ran.returncode or not rows:
-        return rows, [f"verify has status {ran.returncode}: {rows[-1:]} {ran.stderr.decode()[:300]}"]
-    return rows, []
+    """The listed messages of all files but chain messages, each as it was before a wrap, and what is wrong."""
+    listed, faults = [], []
+    for path in files_of(folder):
+        words = [f"{ROOT}/tools/ssign-keys", "verify", f"--key={KEYS}/public-key.pem", "--json", f"--ssign={PROGRAM}", "--max-len=1048576", path]
+        ran = subprocess.run(words, capture_output=True, check=False)
+        rows = [json.loads(it) for it in ran.stdout.splitlines()]
+        faults += [f"verify has status {ran.returncode}: {rows[-1:]} {ran.stderr.decode()[:300]}"] * (ran.returncode != 0)
+        places = stored_in(path)
+        listed += [places[it["place"]] for it in rows if it["line"] == "ok" and not is_ours(places[it["place"]])]
+    return [it.partition(b" wrapped - |")[2] or it for it in listed], faults
 
 
 class Daemon:
@@ -222,7 +233,7 @@ def example_of(folder, *options):
         example = file.read()
     words = re.search(r'binary="([^"]*)"', example)[1]
     ours = words.replace("/usr/bin/ssign-keys", f"{ROOT}/tools/ssign-keys").replace("/etc/ssign", KEYS)
-    ours = ours.replace("/var/lib/ssign/live", f"{folder}/state").replace("/var/log/signed", f"{folder}/out")
+    ours = ours.replace("/var/log/signed", f"{folder}/out")
     ours = " ".join([ours, f"--host={HOST}", "--heartbeat=0", f"--status={folder}/status", f"--ssign={PROGRAM}", *options])
     with open(f"{folder}/live", "w", encoding="ascii") as file:
         file.write(f"#!/bin/sh\nexec {ours} 2>>{folder}/said\n")
@@ -273,9 +284,7 @@ def kills(folder):
     wait_until(lambda: live_of(folder) is None)
     rows, found = verdict(folder)
     faults += found
-    places = stored(folder)
-    listed = collections.Counter(places[it["place"]].partition(b" wrapped - |")[2] or places[it["place"]] for it in rows
-                                 if it["line"] == "ok")
+    listed = collections.Counter(rows)
     faults += [f"{it!r} isn't listed" for it in wanted if not listed[it]][:3]
     sent = collections.Counter(wanted)
     faults += [f"{it!r} was never sent" for it in listed if it not in sent][:3]
@@ -358,7 +367,7 @@ def attack(folder, is_kept):
     count = sum(map(len, sent.values()))
     if len(found) != count:
         faults.append(f"{len(found)} messages are stored, and {count} were sent")
-    listed = sum(it["line"] == "ok" for it in rows)
+    listed = len(rows)
     if listed != count:
         faults.append(f"{listed} messages are listed, and {count} were sent")
     if not is_kept:

@@ -23,13 +23,13 @@ import sys
 import tempfile
 import time
 
-import live_runs
-from live_disks import message
-from live_runs import KEYS, ROOT, Process, differ, framed, signer, tell
+import live_world
+from live_world import KEYS, PATIENCE, ROOT, Child, Live, differ, files, frames, lists, message, read, tell
 
-from ssign_keys import keys, live_loop, live_outside, seal, seal_each
+from ssign_keys import keys, seal, seal_each
 from ssign_keys.blocks import Session
 from ssign_keys.faults import Fault
+from ssign_keys.live import driver, status as live_status
 from ssign_keys.sealed import Record
 
 GBC = re.compile(rb'RSID="([0-9]+)".* GBC="([0-9]+)" FMN="([0-9]+)" CNT="([0-9]+)"')
@@ -55,6 +55,58 @@ def fragment(rsid, total, index, text, host="h"):
 def pieces(rsid, text, size=500, host="h"):
     """The lines `want` of a payload in fragments."""
     return [fragment(rsid, len(text), at + 1, text[at:at + size], host) for at in range(0, len(text), size)]
+
+
+class Process(Child):
+    """A run that answers line by line."""
+
+    def __init__(self, words, before=None):
+        """`before` is called in the child."""
+        self._said = tempfile.TemporaryFile()
+        ours, theirs = os.pipe()
+        super().__init__(words, None, theirs, self._said.fileno(), before or (lambda: None))
+        os.close(theirs)
+        self.answers = os.fdopen(ours, "rb", buffering=0)
+
+    def say(self, octets):
+        """Writes to it."""
+        self.stdin.write(octets)
+        self.stdin.flush()
+
+    def answer(self, seconds=PATIENCE):
+        """A line that it answers; None where none comes in time."""
+        line, end = b"", time.monotonic() + seconds
+        os.set_blocking(self.answers.fileno(), False)
+        while not line.endswith(b"\n"):
+            octet = self.answers.read(1)
+            if octet is None:
+                if time.monotonic() > end:
+                    return None
+                time.sleep(0.01)
+            elif not octet:
+                return line
+            else:
+                line += octet
+        return line
+
+    def end(self, number=None):
+        """Ends its input, or has a signal end it. Gives its status."""
+        if number is not None:
+            self.send_signal(number)
+        with contextlib.suppress(OSError):
+            self.stdin.close()
+        return self.wait()
+
+    @property
+    def child(self):
+        """The number of the process."""
+        return self.pid
+
+    @property
+    def said(self):
+        """What it wrote to standard error."""
+        self._said.seek(0)
+        return self._said.read().decode("utf-8", "replace")
 
 
 class Sealing:
@@ -177,7 +229,7 @@ def races():
                     os.kill(client.child, signal.SIGKILL)
             for client in clients:
                 with contextlib.suppress(OSError):
-                    client.to.close()
+                    client.stdin.close()
                 while True:
                     line = client.answer()
                     if not line or not line.endswith(b"\n"):
@@ -219,7 +271,7 @@ def sizes():
                 for _ in range(count):
                     process.say(octets)
                 process.say(b"\n")
-            process.to.close()
+            process.stdin.close()
             _, ended, used = os.wait4(process.child, 0)
             tell(f"a line of {what}", differ("status", os.waitstatus_to_exitcode(ended), 2), differ("state", it.octets(), before),
                  f"{used.ru_maxrss} KiB of memory" if used.ru_maxrss > MOST_MEMORY else "",
@@ -454,32 +506,23 @@ def cut_answers():
     """A seal command whose connection breaks after some octets of its answers: `live` asks for the same again."""
     rng = random.Random(7)
     wanted = [message(n) for n in range(40)]
-    with signer("--messages=10", "--seconds=0.1") as it:
-        sealed, cuts = it.path("sealed"), it.path("cuts")
+    with tempfile.TemporaryDirectory() as folder:
+        sealed, cuts, command = (os.path.join(folder, it) for it in ("sealed", "cuts", "sealer"))
         each = [os.path.join(ROOT, "tools", "ssign-keys"), "seal", f"{KEYS}/private-key.pem", "--each", f"--state={sealed}"]
         subprocess.run([*each, "--new-state"], stdin=subprocess.DEVNULL, check=True)
-        command = it.path("sealer")
         with open(command, "w", encoding="utf-8") as file:
             # the first line of the file says after how many octets this connection breaks
             file.write(f"#!/bin/sh\ncut=$(head -n 1 {shlex.quote(cuts)})\nsed -i 1d {shlex.quote(cuts)}\n"
                        f"[ \"$cut\" ] || exec {shlex.join(each)}\n{shlex.join(each)} | head -c \"$cut\"\n")
         os.chmod(command, 0o755)
-        with open(cuts, "w", encoding="ascii"):
-            pass
-        it.key = [f"--seal-command={shlex.quote(command)}", f"--public={KEYS}/public-key.pem"]
-        it.run(b"")
         with open(cuts, "w", encoding="ascii") as file:
             file.write("".join(f"{rng.randrange(1, 2200)}\n" for _ in range(4)))
-        run = it.run(framed(wanted))
-        for _ in range(3):
-            if run.status == 0:
-                break
-            # a start that isn't answered reads no message
-            run = it.run(b"" if it.originals() else framed(wanted))
-        with open(cuts, encoding="ascii") as file:
-            left = file.read()
-        tell("connections that break in an answer", differ("status", run.status, 0) and f"{run.status} {run.said}",
-             differ("cuts that weren't tried", left, ""), *it.clean(wanted), "refused" if "was signed already" in run.said else "")
+        live = Live(folder, "--lines", "--messages=10", "--count=10",
+                    key=[f"--seal-command={shlex.quote(command)}", f"--public={KEYS}/public-key.pem"])
+        live.put(*wanted)
+        fault = live.waits_for(confirmed=40, unsigned=0)
+        tell("connections that break in an answer", fault, differ("status", live.end(), 0) and live.words(),
+             differ("cuts that weren't tried", read(cuts), b""), *lists(folder, wanted), "refused" if "was signed already" in live.words() else "")
 
 
 # ---- a seal command that spells a signature otherwise; the right ones are those of dsa_model.py, by arithmetic
@@ -517,43 +560,45 @@ SPELLINGS = (
 
 def spellings():
     """What verify doesn't take as a signature, `live` doesn't store: it says so at once, and asks again."""
-    with signer("--seconds=0.05") as it:
-        how, command = it.path("how"), it.path("sealer")
+    with tempfile.TemporaryDirectory() as folder:
+        how, command = os.path.join(folder, "how"), os.path.join(folder, "sealer")
 
         def spell(text):
             with open(how + ".new", "w", encoding="ascii") as file:
                 file.write(text)
             os.replace(how + ".new", how)
 
+        def stored():
+            return [it for path in files(folder) for it in frames(read(path)) if b"[ssign" in it]
+
+        def before():
+            driver.FIRST_PAUSE = driver.LONGEST_PAUSE = 0.2
+            live_status.STATUS_PAUSE = 0.02
+
         with open(command + ".py", "w", encoding="utf-8") as file:
             file.write(ANSWERS.format(tests=os.path.join(ROOT, "tests"), key=f"{KEYS}/private-key.pem", how=how))
-        it.key = [f"--seal-command={shlex.join([sys.executable, '-B', command + '.py'])}", f"--public={KEYS}/public-key.pem"]
         good = "spell(r) + spell(s)"
-        def before():
-            live_loop.FIRST_PAUSE = live_loop.LONGEST_PAUSE = 0.2
-            live_outside.STATUS_PAUSE = 0.02
-
         spell(good)
-        process = it.start(before=before)
-        count, started = 0, it.wait_for(lambda status: status["running"])
+        live = Live(folder, "--lines", "--seconds=0", before=before, key=[
+            f"--seal-command={shlex.join([sys.executable, '-B', command + '.py'])}", f"--public={KEYS}/public-key.pem"])
+        count, started = 0, live.waits_for(signed=1, unsigned=0)
         for what, text, words in SPELLINGS:
-            stored = it.stored()
+            blocks = stored()
             spell(text)
-            process.say(framed([message(count)]))
+            live.put(message(count))
             count += 1
-            faults = [started, it.wait_for(lambda status: status["failing"])]
-            failing = it.status()["failing"] or ""
-            there = [each for each in it.stored()[len(stored):] if b"[ssign" in each]
+            faults = [started, "it never fails" if not live_world.wait_until(lambda: live.status().get("failing")) else ""]
+            failing = live.status()["failing"] or ""
+            there = stored()[len(blocks):]
             spell(good)
-            faults.append(it.wait_for(lambda status, count=count: status["signed"] == count and not status["pending"]))
+            faults.append(live.waits_for(signed=count + 1, unsigned=0))
             tell(f"a sealer that gives {what}", *faults, differ("blocks that were stored", there, []),
                  "" if f" gave a signature that {words}" in failing else f"it says {failing!r}")
         spell("spell(r, full[0]) + spell(s, full[1])")
-        process.say(framed([message(count)]))
-        fault = it.wait_for(lambda status: status["signed"] == count + 1 and not status["pending"])
-        tell("a sealer that gives counts as the blocks of RFC 5848 have them", fault, differ("status", process.end(), 0), *it.clean(
-            [message(n) for n in range(count + 1)]),
-             "" if SPELLED in process.said and process.said.endswith(" (L5)\n") else f"standard error has {process.said!r}")
+        live.put(message(count))
+        fault = live.waits_for(signed=count + 2, unsigned=0)
+        tell("a sealer that gives counts as the blocks of RFC 5848 have them", fault, differ("status", live.end(), 0), *lists(
+            folder, [message(n) for n in range(count + 1)]), "" if SPELLED in live.words() else f"standard error has {live.words()!r}")
 
 
 def main():
@@ -563,8 +608,8 @@ def main():
     for it in (beginnings, together, locked, races, breaks, sizes, largest, names, payloads, pieces_again, recipes, far, kills, full, cut_answers, spellings):
         if not sys.argv[3:] or it.__name__ in sys.argv[3:]:
             it()
-    print(f"live_seal: {live_runs.passed} passed, {live_runs.failed} failed")
-    return 1 if live_runs.failed else 0
+    print(f"live_seal: {live_world.passed} passed, {live_world.failed} failed")
+    return 1 if live_world.failed else 0
 
 
 if __name__ == "__main__":

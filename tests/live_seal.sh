@@ -47,8 +47,8 @@ begin_state() {
 over() {
     local what=$1 command=$2 parent=$3 number pids
     mkfifo "$what.in"
-    timeout "$patience" "$keys_program" live --seal-command "$command" --public keys/public-key.pem --state "$what.state" \
-        --out "$what.out" --host gate.example.org --heartbeat 0 --seconds 0.2 --lines --status "$what.status" \
+    timeout "$patience" "$keys_program" live --seal-command "$command" --public keys/public-key.pem --procid - \
+        --folder "$what.out" --host gate.example.org --heartbeat 0 --seconds 0 --lines --status "$what.status" \
         <"$what.in" >"$what.said" 2>&1 &
     started+=("$!")
     local live=$!
@@ -56,7 +56,7 @@ over() {
     for number in {1..60}; do
         echo "<13>1 - gate.example.org app - - - $what $number"
         if [[ $number == 20 || $number == 40 ]]; then
-            wait_for "$what: $number messages are signed" has_signed "$what.status" "$number"
+            wait_for "$what: $number messages are signed" has_signed "$what.status" "$((number + 1))"
             pids=$(pgrep -P "$parent") && xargs kill -9 <<<"$pids"
         fi
     done >&8
@@ -64,10 +64,10 @@ over() {
     wait "$live"
     status=$?
     holds "$what: the status of live" test "$status" = 0
-    "$keys_program" verify --key keys/public-key.pem --counters "$what.state"/counters-* "$what.out"/*.frames >out 2>err
+    "$keys_program" verify --key keys/public-key.pem "$what.out"/*.open >out 2>err
     status=$?
     holds "$what: the status of verify: $(cat out err)" test "$status" = 0
-    holds "$what: all messages are signed" test "$(cat "$what.out"/*.frames | grep -ao -- " - $what " | wc -l)" = 60
+    holds "$what: all messages are signed" test "$(cat "$what.out"/*.open | grep -ao -- " - $what " | wc -l)" = 60
     holds "$what: connections were killed" test "$(grep -c . <<<"${pids-}")" -ge 1
 }
 

@@ -4,8 +4,7 @@ flow, and hostile senders send.
 
     live_syslog_ng.py SSIGN KEYS [MESSAGES [KILLS]]
 
-program() has no confirmation. Wanted: what is stored is listed, in a joined session, with status 0 up to the kept counters, each
-message once and in order; and a kill loses at most what the pipe and the buffer of syslog-ng hold. Without a kill nothing is
+program() has no confirmation. Wanted: what is stored is listed, each file with status 0, each message once and in order; and a kill loses at most what the pipe and the buffer of syslog-ng hold. Without a kill nothing is
 lost. Wanted of hostile senders: as many messages are stored as were sent, and no HOSTNAME is one that no sender's header has.
 The last line is `live_syslog_ng: N passed, M failed`.
 """
@@ -17,13 +16,13 @@ import subprocess
 import sys
 import tempfile
 
-from live_rsyslog import (FORGED, HOST, KEYS, PROGRAM, ROOT, connect, free_port, hostile, live_of, names_of, originals, status_of, stored,
-                          verdict, wait_until)
+from live_rsyslog import (FORGED, KEYS, PROGRAM, ROOT, connect, free_port, hostile, is_ours, live_of, names_of, originals, status_of,
+                          stored, verdict, wait_until)
 
 COUNT = int(sys.argv[3]) if len(sys.argv) > 3 else 6000
 KILLS = int(sys.argv[4]) if len(sys.argv) > 4 else 3
 # octets: a pipe of Linux, what live reads at once, and one message that is being written
-PIPE = 2 * 65536 + 24096
+PIPE = 65536 + (1 << 18) + 24096
 CONFIG = """@version: 3.38
 options {{ keep-hostname(yes); }};
 source s_src {{ syslog(ip(127.0.0.1) port({port}) transport("tcp") keep-timestamp(yes) log-iw-size(1000));
@@ -42,8 +41,8 @@ def config_of(folder, port):
         example = file.read()
     words = re.search(r'program\("([^"]*)"', example)[1]
     ours = words.replace("/usr/bin/ssign-keys", f"{ROOT}/tools/ssign-keys").replace("/etc/ssign", KEYS)
-    ours = ours.replace("/var/lib/ssign/live", f"{folder}/state").replace("/var/log/signed", f"{folder}/out")
-    ours += f" --host=gate.example.org --heartbeat=0 --seconds=0.5 --status={folder}/status --ssign={PROGRAM}"
+    ours = ours.replace("/var/log/signed", f"{folder}/out")
+    ours += f" --host=gate.example.org --heartbeat=0 --seconds=1 --status={folder}/status --ssign={PROGRAM}"
     with open(f"{folder}/live", "w", encoding="ascii") as file:
         file.write(f"#!/bin/sh\nexec {ours} 2>>{folder}/said\n")
     os.chmod(f"{folder}/live", 0o755)
@@ -102,7 +101,7 @@ def run(folder, kills):
                 sender.sendall(b"".join(b"%d %s" % (len(it), it) for it in wanted[at * size:(at + 1) * size]))
                 if at < kills:
                     number = None
-                    if not wait_until(lambda: status_of(folder).get("taken", 0) >= 50):
+                    if not wait_until(lambda: status_of(folder).get("confirmed", 0) >= 50):
                         faults.append(f"before the kill {at} nothing was taken")
                     number = live_of(folder)
                     os.unlink(f"{folder}/status")
@@ -110,13 +109,13 @@ def run(folder, kills):
                         faults.append("no process signs")
                     else:
                         os.kill(number, signal.SIGKILL)
-        if not wait_until(lambda: wanted[-1] in stored(folder) and not status_of(folder).get("pending", 1)):
+        if not wait_until(lambda: wanted[-1] in stored(folder) and not status_of(folder).get("unsigned", 1)):
             faults.append(f"the last message never came: {len(stored(folder))} of {COUNT}")
     finally:
         faults += daemon.end()
     wait_until(lambda: live_of(folder) is None)
     faults += verdict(folder)[1]
-    found = [it for it in stored(folder) if b"[ssign" not in it]
+    found = [it for it in stored(folder) if not is_ours(it)]
     order = {it: place for place, it in enumerate(wanted)}
     # the next process begins with a whole frame
     torn = [it for it in found if it not in order]
@@ -160,7 +159,7 @@ def attack(folder):
         lines = file.read().splitlines(keepends=True)
     if len(lines) != 2 * len(sent) or names_of(lines) & names_of([FORGED]):
         faults.append(f"a file of lines has {len(lines)}, of {names_of(lines)}")
-    listed = sum(it["line"] == "ok" for it in rows)
+    listed = len(rows)
     if listed != 2 * len(sent):
         faults.append(f"{listed} messages are listed, and {2 * len(sent)} were sent")
     # syslog-ng makes headers for what has none, of this machine or of the address that it came from

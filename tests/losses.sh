@@ -1,6 +1,6 @@
 #!/usr/bin/env bash
 # The steps of docs/user/how-to/after-a-loss.md, each command as it stands there: a signer that was put back from a backup, a
-# lost state, a lost key, a stolen one, and a lost memory of checks. Only the folders and the names of machines are others.
+# lost key, a stolen one, and a lost memory of checks. Only the folders and the names of machines are others.
 # Scripts stand in for systemctl and scp, and for rsync where that is missing.
 # shellcheck source=tests/lib.sh
 . "$(dirname -- "$0")/lib.sh"
@@ -110,52 +110,6 @@ on gate <<<"$sign"
 checked 'without the steps there is a fork' 1 '5 files of 1 originator: 1 finding'
 holds 'without the steps there is a fork: its name' grep -q '^gate/messages.log-5.frames fork: ' out
 
-# ---- sessions that were put back, and lost
-mkdir -p keys gate/var/lib/ssign
-ssign-keys make keys
-sign_next() {
-    printf '<13>1 2026-01-01T00:00:00Z gate app - - - event %d\n' "$@" >next.log
-}
-first='ssign-keys sign --key keys/private-key.pem --state session --new-session --host gate.example.org --app signer next.log'
-sign_next 1 2
-on gate <<<"$first > first.frames"
-cp -a session session.old
-sign_next 3 4
-on gate <<<'ssign-keys sign --key keys/private-key.pem --state session next.log > second.frames'
-cp session/counters-* kept
-rm -r session
-mv session.old session
-sign_next 5 6
-on gate < <(block '--state session --new-session')
-did 'a session after a restore' 0
-holds 'a session after a restore: nothing is missing' grep -q 'All 6 announced messages .* Nothing is missing up to the counters' \
-    <(ssign-keys verify --key keys/public-key.pem --counters kept first.frames second.frames next.frames)
-mv session away
-sign_next 7
-on gate <<<"ssign-keys sign --key keys/private-key.pem --state session next.log"
-did 'a lost state is refused' 2
-on gate <<<"ssign-keys sign --key keys/private-key.pem --state session $(sed -n 's/.*with all its names: `\(.*\)`\./\1/p' "$page") next.log > last.frames"
-did 'a lost state: another session' 0
-holds 'a lost state: all is there' grep -q 'All 7 announced' \
-    <(ssign-keys verify --key keys/public-key.pem --counters kept first.frames second.frames next.frames last.frames)
-
-live='ssign-keys live --key /etc/ssign/private-key.pem --state /var/lib/ssign/live --out /var/log/signed/live --lines --host gate'
-mkdir gate/var/log/signed/live
-on gate <<<"echo '<13>1 - h a - - - one' | $live --new-session"
-did 'live begins' 0
-cp -a gate old.live
-on gate <<<"echo '<13>1 - h a - - - two' | $live"
-cp gate/var/lib/ssign/live/counters-* kept
-mv gate/var/log/signed/live whole
-rm -r gate
-mv old.live gate
-on gate < <(block 'ssign-keys live' | sed 's:/var/log/signed:&/live:')
-did 'live after a restore' 0
-on gate <<<"echo '<13>1 - h a - - - three' | $live"
-did 'live goes on' 0
-cp -n gate/var/log/signed/live/* whole
-holds 'live after a restore: nothing is missing' grep -q 'All 3 announced messages .* Nothing is missing up to the counters' \
-    <(ssign-keys verify --key gate/etc/ssign/public-key.pem --counters kept whole/*.frames)
 
 # ---- another key
 begin

@@ -29,6 +29,7 @@ import ssign_archive.cli
 import ssign_keys.cli
 import ssign_keys.sign
 import ssign_keys.verify
+from session_nights import sign_nights
 
 TOOLS = {KEYS: ssign_keys.cli.main, ARCHIVE: ssign_archive.cli.main}
 LINE = b"<13>1 - - - - - - %s"
@@ -172,11 +173,11 @@ def write_logs():
 
 def write_nights():
     """Two nights of one session, with the counters of the first, and a signed log in an archive."""
-    for name, words in (("monday", ["--new-session", "--rsid", "7", "--host", "h"]), ("tuesday", [])):
-        with open(name, "wb") as signed:
-            subprocess.run([KEYS, "sign", "--key", "keys/private-key.pem", "--state", "session", *words, "lines"], stdout=signed, check=True)
-        subprocess.run([KEYS, "verify", "--key", "keys/public-key.pem", "--counters-out", "counted-" + name, name], stdout=subprocess.DEVNULL,
-                       stderr=subprocess.DEVNULL, check=False)
+    with open("lines", "rb") as night, open("keys/payload", encoding="ascii") as payload:
+        nights = sign_nights("keys/private-key.pem", payload.read().rstrip("\n"), [night.read()] * 2)
+    for name, (signed, counted) in zip(("monday", "tuesday"), nights):
+        write(name, signed)
+        write("counted-" + name, counted)
     subprocess.run([KEYS, "verify", "--key", "keys/public-key.pem", "--counters-out", "counted", "signed"], stdout=subprocess.DEVNULL, check=False)
     with tarfile.open("tar-of-frames", "w", tarfile.USTAR_FORMAT) as archive:
         archive.add("signed")
@@ -392,7 +393,7 @@ def table(program):
     for word, meant in (("--verison", "--version"), ("-V", "--version"), ("--hlep", "--help")):
         yield [KEYS, word], b"", f"there is no option {word}: perhaps {meant} is meant (see `ssign-keys --help`)"
     yield [KEYS, "--key", "x", "verify"], b"", "there is no option --key (see `ssign-keys --help`)"
-    for word, meant in (("--any", "--any-order"), ("--KEY", "--key"), ("-k", "--key"), ("--man", "--manifest"), ("--Allow-SHA", "--allow-sha1")):
+    for word, meant in (("--any", "--any-order"), ("--KEY", "--key"), ("-k", "--key"), ("--Allow-SHA", "--allow-sha1")):
         yield verify[:2] + [word, "x", "signed"], b"", f"there is no option {word}: perhaps {meant} is meant " + SEE % "verify"
     yield verify + ["--findings", "-k", "x"], b"", "there is no option -k: perhaps --key is meant " + SEE % "verify"
     for word in ("-z", "-s", "--zzz"):
@@ -439,7 +440,7 @@ def warnings():
     yield [KEYS, "verify", "--key", "keys/public-key.pem", "--lines", "signed"], b"", 1, \
         said % ("signed", "this looks like octet-counted frames, and is read as lines")
     verify = [KEYS, "verify", "--key", "keys/public-key.pem"]
-    nothing = "the log is empty, so it shows nothing: only counters or a manifest show whether something is missing"
+    nothing = "the log is empty, so it shows nothing: only counters show whether something is missing"
     yield verify + ["empty"], b"", 1, said % ("empty", nothing)
     yield verify + ["-"], b"", 1, said % ("standard input", nothing)
     yield verify + ["signed", "empty"], b"", 1, said % ("empty", nothing)
@@ -461,11 +462,11 @@ def warnings():
     yield verify + ["--allow-sha1", "signed-fed"], b"", 1, fed % ("signed-fed", ", one after each frame")
     yield verify + ["--allow-sha1", "signed-crlf"], b"", 1, returned % ("signed-crlf", ", one after each frame")
     yield verify + ["tar-of-frames"], b"", 1, said % ("tar-of-frames", "this is an archive of tar: hand over a log of it (`tar -xOf ARCHIVE LOG`)")
-    part = "ssign-keys: the log may be a part of the session 'h - - 7', whose first numbers aren't in it: --from names the counters with which the " \
+    part = "ssign-keys: the log may be a part of the session 'gate signer - 7', whose first numbers aren't in it: --from names the counters with which the " \
         "part before ends; without them, give all parts\n"
     yield verify + ["tuesday"], b"", 1, part
-    yield verify + ["monday", "tuesday"], b"", 1, ""
-    yield verify + ["--from", "counted-monday", "tuesday"], b"", 1, ""
+    yield verify + ["monday", "tuesday"], b"", 0, ""
+    yield verify + ["--from", "counted-monday", "tuesday"], b"", 0, ""
     wrapped = "ssign-keys: 1 message was signed in a wrap each, which holds all its octets:\n%s  place 1: M2 at octet 4: The PRI isn't followed by " \
         "1 and a space\n"
     why = "  This is so because all of these have the form of RFC 3164; --no-wrap refuses such a log\n"

@@ -19,7 +19,7 @@ out_of_range() {
     expect "$1: $option -1 in front" 2 '' "error: invalid value '-1' for '$option <N>': -1 is not in $range"$'\n\n'"For more information, try '--help'."
 }
 
-list_commands plan sign describe explain
+list_commands plan sign describe live explain
 for command in "${commands[@]}"; do
     out_of_range --max-len 1..=1048576 "$command"
     out_of_range --max-messages 1..=10000000 "$command"

@@ -1,5 +1,5 @@
 #!/usr/bin/env bash
-# What has to stand on the disk before a run of `ssign-keys seal`, `sign --state`, `sign --folder` or `manifest` goes on:
+# What has to stand on the disk before a run of `ssign-keys seal` or `sign --folder` goes on:
 # on_disk.py notes the calls of the system. A power cut can't be made here.
 # shellcheck source=tests/lib.sh
 . "$(dirname -- "$0")/lib.sh"

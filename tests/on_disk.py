@@ -13,7 +13,7 @@ import os
 import subprocess
 import sys
 import tempfile
-from typing import Dict, List, Sequence, Tuple
+from typing import Dict, List, Sequence
 
 from review_runs import frame
 
@@ -114,29 +114,9 @@ def try_seal(tool: str, ssign: str, keys: str, folder: str) -> None:
             faults.append("seal printed no seals")
 
 
-def try_session(tool: str, ssign: str, keys: str, folder: str) -> None:
-    """A session that goes on: its counters are on the disk before a program runs that signs, and before anything is printed."""
-    state = os.path.join(folder, "session-state")
-    log = frame(b"<13>1 - - - - - - one")
-    for night, option in enumerate((["--new-session", "--rsid=7"], []), 1):
-        found = calls(tool, ["sign", "--ssign", ssign, "--key", os.path.join(keys, "private-key.pem"), "--state", state, *option, "-"], "0", log)
-        look(f"sign, night {night}", found, [os.path.join(state, it) for it in ("session", "counters-7")])
-        if not any(it == ["write", "standard output"] for it in found):
-            faults.append("sign printed no signed log")
-        # what is to be signed is planned after the counters ahead were counted and are on the disk
-        kinds = [it[0] if it[0] != "start" else it[1] for it in found]
-        counted = kinds.index("plan --ahead")
-        planned = [at for at, it in enumerate(kinds) if it.startswith("plan ") and at > counted]
-        named = [at for at, it in enumerate(found) if it[0] == "replace" and it[2] == os.path.join(state, "session")]
-        synced = [at for at, it in enumerate(found) if it == ["fsync", state]]
-        if not planned or len(planned) != len(named) or not all(
-                any(name < sync < plan for sync in synced) for name, plan in zip(named, planned)):
-            faults.append(f"sign, night {night}: what is planned at {planned} has its session named at {named}, and synced at {synced}")
-
-
-def try_folder(tool: str, ssign: str, keys: str, folder: str) -> Tuple[str, str]:
-    """A log of a folder that is signed, with a line that is set aside. Gives the signed file and its counters."""
-    logs, sessions, counters = (os.path.join(folder, it) for it in ("logs", "sessions", "counters"))
+def try_folder(tool: str, ssign: str, keys: str, folder: str) -> None:
+    """A log of a folder that is signed, with a line that is set aside."""
+    logs, sessions = (os.path.join(folder, it) for it in ("logs", "sessions"))
     os.mkdir(logs)
     log = os.path.join(logs, "night.log")
     with open(log, "w", encoding="ascii") as file:
@@ -150,23 +130,6 @@ def try_folder(tool: str, ssign: str, keys: str, folder: str) -> Tuple[str, str]
     order = [it[2] for it in found if it[0] in ("rename", "replace", "link") and it[2] in names]
     if order != names:
         faults.append(f"sign --folder: the order of the names is {order}")
-    subprocess.run([tool, "verify", "--ssign", ssign, "--key", os.path.join(keys, "public-key.pem"), "--counters-out", counters,
-                    names[2]], stdout=subprocess.DEVNULL, check=True)
-    return names[2], counters
-
-
-def try_manifest(tool: str, ssign: str, log: str, counters: str, folder: str) -> None:
-    """An entry of a manifest is on the disk before its number is printed."""
-    manifest = os.path.join(folder, "manifest")
-    with open(manifest, "wb"):
-        pass
-    for words in (["add", manifest, log, "--counters", counters, "--ssign", ssign], ["copied", manifest, log, "--to", "elsewhere"]):
-        found = calls(tool, ["manifest", *words], "0")
-        kinds = [it[:2] for it in found]
-        written, synced, printed = (kinds.index(it) if it in kinds else -1 for it in (
-            ["write", manifest], ["fsync", manifest], ["write", "standard output"]))
-        if not -1 < written < synced < printed:
-            faults.append(f"manifest {words[0]}: the line is written at {written}, on the disk at {synced}, printed at {printed}")
 
 
 def main(tool: str, ssign: str, keys: str) -> int:
@@ -174,9 +137,7 @@ def main(tool: str, ssign: str, keys: str) -> int:
     with tempfile.TemporaryDirectory() as folder:
         folder = os.path.realpath(folder)
         try_seal(tool, ssign, keys, folder)
-        try_session(tool, ssign, keys, folder)
-        log, counters = try_folder(tool, ssign, keys, folder)
-        try_manifest(tool, ssign, log, counters, folder)
+        try_folder(tool, ssign, keys, folder)
     for fault in faults:
         print(f"    {fault}")
     print(f"{seen} calls, {len(faults)} faults")

@@ -65,7 +65,7 @@ there/bin/python -m pip install --no-build-isolation --no-index --no-deps --quie
 status=$?
 tell 'pip installs it' "$([[ $status == 0 ]] || tail -n 5 out)"
 place=$(there/bin/python -c 'import sysconfig; print(sysconfig.get_path("purelib"))')
-for package in ssign_keys ssign_keys/chain ssign_keys/check ssign_archive; do
+for package in ssign_keys ssign_keys/chain ssign_keys/check ssign_keys/live ssign_archive; do
     for file in "$root/tools/$package"/*.py; do
         holds "$package/${file##*/} is installed" cmp -- "$file" "$place/$package/${file##*/}"
     done

@@ -105,7 +105,7 @@ holds 'texts stay texts, in attributes too' text texts "$root/tools"
 page() {
     local what=$1 wanted=$2 said=
     shift 2
-    [[ $what != empty ]] || said='ssign-keys: warning: empty.frames: the log is empty, so it shows nothing: only counters or a manifest show whether something is missing'
+    [[ $what != empty ]] || said='ssign-keys: warning: empty.frames: the log is empty, so it shows nothing: only counters show whether something is missing'
     keys verify --json --html "$what.html" "$@"
     cp out "$what.json"
     holds "$what: status $wanted" test "$status" = "$wanted"

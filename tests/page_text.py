@@ -41,9 +41,9 @@ ROWS, NAMED, TOP = 200, 3, 12
 DRAWN = ("verified", "listed", "missing", "changed or replaced", "missing up to the counters", "disputed", "unannounced",
          "unlisted", "unverified", "spoilt", "damaged")
 KINDS = ("gone", "missing", "changed or replaced", "missing up to the counters", "unlisted", "unannounced", "missing blocks", "disputed",
-         "early", "beyond", "out of order", "damaged", "torn", "manifest", "not joined", "SHA-1", "unverified", "strangers", "spoilt")
+         "early", "beyond", "out of order", "damaged", "torn", "not joined", "SHA-1", "unverified", "strangers", "spoilt")
 # those whose rows count as one each, and those of them that the first box names
-SINGLE = ("gone", "out of order", "damaged", "torn", "manifest", "not joined", "SHA-1", "strangers")
+SINGLE = ("gone", "out of order", "damaged", "torn", "not joined", "SHA-1", "strangers")
 LED = {"gone": "session", "out of order": "group"}
 
 
@@ -275,8 +275,6 @@ def sorted_rows(objects: List[Dict[str, Any]]) -> Dict[str, List[Row]]:
             rows[line].append(Row(it["length"], f"{it['file']}, octet {it['file_offset']}", what=None))
         elif line == "torn":
             rows[line].append(Row(1, f"{it['file']}, octet {it['file_offset']}", what=None))
-        elif line == "manifest":
-            rows[line].append(Row(1, it["where"], what=it["what"]))
     take_places(objects, taken | is_in_hole, len(objects[0]["files"]) == 1, rows)
     for name, (messages, blocks) in gone.items():
         rows["gone"].append(Row(messages, name, what=f"{grouped(messages, 'message')} and {grouped(blocks, 'signature block')} of it, by the counters"))
@@ -453,10 +451,9 @@ def check_files(checked: Dict[str, Any], page: Node) -> None:
         assert it["session"] is None or f" for the session {it['session']}" in line, (line, it)
         assert it["file_sha256"] is None or f" {it['file']}, a file with the SHA-256 {it['file_sha256']}" in line, (line, it)
         assert it["certificate"] is None or it["certificate"]["subject"] in line and it["certificate"]["fingerprint"] in line
-    for name in ("counters", "manifest"):
-        it = checked[name]
-        assert [line for line in rest if line.startswith(f"{name}: ")] == (
-            [f"{name}: {it['name']}, {grouped(it['size'], 'octet')}, SHA-256 {it['sha256']}"] if it else []), (rest, it)
+    it = checked["counters"]
+    assert [line for line in rest if line.startswith("counters: ")] == (
+        [f"counters: {it['name']}, {grouped(it['size'], 'octet')}, SHA-256 {it['sha256']}"] if it else []), (rest, it)
     for front, name in (("answers: ", "answers"), ("program: ", "ssign"), ("tool: ", "tool")):
         line = next(it for it in rest if it.startswith(front))
         assert line.endswith(f"SHA-256 {checked[name]['sha256']}") and (checked[name].get("path") or "") in line, line
@@ -610,7 +607,6 @@ def main(command: str, *words: str) -> None:
     elif command == "same":
         with open(words[0], encoding="ascii") as file:
             objects = [json.loads(it) for it in file]
-        # findings of a manifest stand in front of the others
         check_same(objects, read_page(words[1]))
     elif command == "browser":
         check_browser(*words)

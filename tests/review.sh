@@ -136,7 +136,7 @@ done
 run --help </dev/null
 expect '--help' 0 'SOME TEXT' ''
 list_commands
-holds 'the commands' test "${commands[*]}" = 'review questions extract inspect plan sign counters carry describe explain'
+holds 'the commands' test "${commands[*]}" = 'review questions extract inspect plan sign counters carry describe live explain'
 for command in "${commands[@]}"; do
     run "$command" --help </dev/null
     expect "$command --help" 0 'SOME TEXT' ''

@@ -33,18 +33,18 @@ HAS_KEYS = importlib.util.find_spec("cryptography") is not None
 HAS_OPENSSL = shutil.which("openssl") is not None
 Path = Tuple[Any, ...]
 # how many command lines there are, by what they need beside those in front
-LINES = {"jsonschema": 37, "cryptography": 46, "openssl": 6}
+LINES = {"jsonschema": 37, "cryptography": 42, "openssl": 6}
 # without these keys an object is one of another run, and so is an `end` without its count
-MAY_LACK = {"from", "missing_up_to_counters", "missing_blocks", "left_out", "stamped"}
+MAY_LACK = {"from", "missing_up_to_counters", "missing_blocks", "stamped"}
 # an object of a line with facts may lack these, because they aren't true of its message, or its place isn't named
 MAY_LACK_FACTS = {("plain", "marked"), ("plain", "original"), ("unparsed", "marked"), ("unparsed", "text"), ("spoilt", "text"),
                   ("wrapped-plain", "marked"), ("wrapped-unparsed", "marked")}
 # the tables of these sections of docs/dev/FORMATS.md have lines of `ssign`: a word, and its fields in capitals
 LINE_TABLES = ("A report", "A tally", "Counters", "An inspection")
 # those of these have kinds of objects: what `line` has, and the other keys
-KEY_TABLES = {"Facts about messages": REPORT, "Other lines as JSON": REPORT, "A verdict as JSON": VERDICT, "Nights as JSON": VERDICT}
+KEY_TABLES = {"Facts about messages": REPORT, "Other lines as JSON": REPORT, "A verdict as JSON": VERDICT}
 # these have kinds of objects in a sentence, as "`line` is `explanation`, and `table`, `code` and `text` follow"
-SENTENCES = {"Other lines as JSON": REPORT, "A manifest": VERDICT}
+SENTENCES = {"Other lines as JSON": REPORT}
 # these lines of an inspection are of no message, and so never of a wrap
 NO_MESSAGE = ("damaged", "torn", "end")
 # a key, or a word in capitals that stands for several
@@ -355,8 +355,7 @@ def check_tables(schemas: Dict[str, Schema]) -> None:
     """Each kind of line on the page has one branch with its keys, and each branch has a row or a line there."""
     with open(os.path.join(ROOT, "docs", "dev", "FORMATS.md"), encoding="utf-8") as file:
         text = file.read()
-    # what stopped runs left out stands below the table of nights
-    branches = [(name, schema.word(kind), *(it for it in schema.keys(kind)[1:] if it != "left_out"))
+    branches = [(name, schema.word(kind), *schema.keys(kind)[1:])
                 for name, schema in schemas.items() if name != CHECK for kind in schema.kinds]
     for what, fault in faults_of(text, branches):
         tell(what, fault)
@@ -370,11 +369,8 @@ def check_words(text: str, schemas: Dict[str, Schema]) -> None:
     for heading, head, found in (
             ("A report", "State", [it for it in defs[REPORT]["state"]["enum"] if it != "absent"]),
             ("Spoilt blocks", "No.", defs[REPORT]["spoil"]["enum"]),
-            ("A manifest", "`kind`", defs[VERDICT]["manifest"]["properties"]["kind"]["enum"]),
             ("Findings of a check", "Kind", defs[CHECK]["kind"]["enum"])):
-        # a row may have one of its cases alone, as "`empty`, where `where` is `manifest`"
-        firsts = [re.sub(", where .*", "", row[0]) for row in cells(section(text, heading), head)]
-        words = [word for it in firsts for word in re.findall(r"[\w-]+", it)]
+        words = [word for row in cells(section(text, heading), head) for word in re.findall(r"[\w-]+", row[0])]
         tell(f"FORMATS.md: {heading}: {head}", "" if set(words) == set(found) else f"{words}, and not {found}")
 
 
@@ -404,7 +400,7 @@ def check_pages(schemas: Dict[str, Schema]) -> None:
         tell(f"{name}: it has each word", " ".join(lacking))
     table = page("verdict.md").partition("## All words")[2].partition("## ")[0]
     # these have a sentence in front of the table
-    lacking = [it for it in KINDS if it not in table and it not in ("manifest", "SHA-1", "not joined")]
+    lacking = [it for it in KINDS if it not in table and it not in ("SHA-1", "not joined")]
     tell("verdict.md: it has each word of a finding", " ".join(lacking))
 
 

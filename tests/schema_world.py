@@ -15,6 +15,7 @@ from typing import Iterator, List, NamedTuple, Sequence, Tuple
 
 import stamps
 from review_runs import as_answers, frame, read_frames
+from session_nights import sign_nights
 
 ROOT = os.path.dirname(os.path.dirname(os.path.abspath(__file__)))
 SSIGN = os.environ["SSIGN"]
@@ -294,7 +295,7 @@ def verdicts(world: Signed) -> Iterator[Case]:
     world.sign("sha1", 2, "--ver", "0111")
     yield verify(logs.path("sha1"), 1, "session")
     yield verify(logs.path("sha1"), 0, "session", "--allow-sha1")
-    yield from (Case(REPORT, [KEYS, "explain", "--json", *it], "", 0, "explanation") for it in ([], ["L1"], ["S3"]))
+    yield from (Case(REPORT, [KEYS, "explain", "--json", *it], "", 0, "explanation") for it in ([], ["T1"], ["S3"]))
 
 
 # ---- certificates, and time stamps of counters
@@ -337,39 +338,24 @@ def stamped(world: Signed) -> Iterator[Case]:
                        "--tsa-ca", f"{folder}/trial/ca.pem")
 
 
-# ---- nights, and their manifest
+# ---- a session that is longer than a file
 
 def nights(world: Signed) -> Iterator[Case]:
-    """Three nights of one session, whole and damaged."""
+    """Two nights of one session, whole and damaged."""
     logs = world.logs
-    manifest, folder = logs.put("manifest", b""), logs.path("nights")
-    os.mkdir(folder)
-    for night in range(3):
-        plain = logs.put("night", b"".join(b"<13>1 - gate app - - - %d of night %d\n" % (it, night) for it in range(5)))
-        name, begin = f"{folder}/night-{night}", ["--new-session", "--rsid", "7"] if night == 0 else []
-        write(name, run([KEYS, "sign", "--key", world.private, "--state", logs.path("state"), *begin, "--ver", "0121",
-                         "--host", "gate", "--app", "signer", "--lines", plain]))
-        # the counters of a night, by hand: each has one block
-        ends = b"count gate signer - 7 %d\ncount gate signer - 7 0 0 %d\nend 2\n" % (night + 1, 5 * night + 6)
-        kept = logs.put("kept", ends)
-        last = run([KEYS, "manifest", "add", manifest, name, "--counters", kept]).decode().strip()
-    verify = [KEYS, "verify", "--json", *world.trusted]
-    check = [KEYS, "manifest", "check", "--json", "--last", last, manifest, folder]
-    of_entry = [*verify, "--manifest", manifest, "--from-manifest"]
-    yield Case(VERDICT, [*verify, "--nights", manifest, folder], "", 0, "night verdict-of-nights")
-    yield Case(VERDICT, [*verify, "--manifest", manifest, f"{folder}/night-0"], "", 0, "checked verdict")
-    yield Case(VERDICT, [*of_entry, f"{folder}/night-1"], "", 0, "checked verdict")
-    yield Case(VERDICT, check, "", 0, "total")
-    # from here on a night is changed, and another one gone
-    harmed = logs.path("harmed")
-    os.mkdir(harmed)
-    write(f"{harmed}/night-0", read(f"{folder}/night-0"))
-    write(f"{harmed}/night-1", read(f"{folder}/night-1").replace(b"3 of night", b"4 of night"))
-    yield Case(VERDICT, [*verify, "--nights", manifest, harmed], "", 1, "night verdict-of-nights")
-    other = ["--manifest-last", "9:" + "0" * 64]
-    yield Case(VERDICT, [*verify, "--nights", manifest, *other, harmed], "", 1, "manifest night")
-    yield Case(VERDICT, [*of_entry, f"{harmed}/night-1"], "", 1, "manifest gap verdict")
-    yield Case(VERDICT, [*check[:-1], harmed], "", 1, "manifest total")
+    texts = [b"".join(b"<13>1 - gate app - - - %d of night %d\n" % (it, night) for it in range(5)) for night in range(2)]
+    payload = read(logs.path("keys/payload")).decode().rstrip("\n")
+    for night, (log, counters) in enumerate(sign_nights(world.private, payload, texts)):
+        logs.put(f"night-{night}", log)
+        logs.put(f"ends-{night}", counters)
+    ends = logs.path("ends-0"), logs.path("ends-1")
+    yield world.verify(logs.path("night-1"), 0, "checked verdict", "--from", ends[0], "--counters", ends[1])
+    yield world.verify(logs.path("night-1"), 1, "early verdict", "--from", ends[1])
+    # another night in its place
+    none = logs.put("none", b"end 0\n")
+    yield world.verify(logs.path("night-1"), 1, "beyond verdict", "--from", none, "--counters", ends[0])
+    changed = logs.put("changed", read(logs.path("night-1")).replace(b"3 of night", b"4 of night"))
+    yield world.verify(changed, 1, "gap verdict", "--from", ends[0], "--counters", ends[1])
 
 
 # ---- ssign-keys check

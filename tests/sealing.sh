@@ -238,7 +238,9 @@ keep sign --key kept/private-key.pem --rsid 1 log
 { frame 'no syslog' && cat log; } >odd
 keep sign --key kept/private-key.pem --rsid 1 --set-aside written/aside odd
 keep sign --key kept/private-key.pem --rsid 1 --ver 0111 log
-keep sign --key kept/private-key.pem --state written --new-session --host h log
+mkdir written/folder
+cp log written/folder/a.log
+keep sign --key kept/private-key.pem --folder written/folder --host h
 keep seal kept/private-key.pem --state written/sealed --new-state <wants
 keep seal kept/private-key.pem < <(echo nothing)
 keep answer kept/private-key.pem <wants
@@ -256,7 +258,7 @@ spelled += [octets, octets.hex().encode(), octets.hex().upper().encode(), b"%d" 
 def has_it(path):
     return any(it in path.read_bytes().replace(b"\n", b"") for it in spelled)
 written = [it for it in pathlib.Path(sys.argv[3]).rglob("*") if it.is_file()]
-sys.exit(len(written) < 10 or any(map(has_it, written)) or not has_it(pathlib.Path(sys.argv[2])))
+sys.exit(len(written) < 9 or any(map(has_it, written)) or not has_it(pathlib.Path(sys.argv[2])))
 P
 
 finish

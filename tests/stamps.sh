@@ -114,20 +114,8 @@ holds 'without a stamp, a log that was cut with its counters is clean' test "$st
 keys verify --key key.pem --counters shorter "${stamped[@]}" cut.frames
 says 'a log that was cut with its counters' "the time stamp counters.tsr isn't of the counters: it is of a file with the SHA-256 $sum (T1)"
 
-# ---- of a manifest, and of both
-: >manifest
-"$keys_program" manifest add manifest signed --counters counters >mark
-keys stamp manifest --tsa-command "$answer good" --tsa-ca trial/ca.pem --out manifest-stamp
-holds 'a stamp of a manifest: status' test "$status" = 0 -a -e manifest-stamp -a ! -e manifest.tsr
-keys verify --key key.pem --manifest manifest --stamped manifest-stamp --tsa-ca trial/ca.pem signed
-holds 'a stamp of a manifest: the verdict' grep -q '^Verdict: All 10 .* up to the counters. This manifest existed at .*, by the time stamp of CN=trial TSA,O=Trial.$' out
-keys "${verify[@]}" --manifest manifest --stamped manifest-stamp "${stamped[@]}" signed
-holds 'stamps of both: the verdict' grep -q 'This manifest existed at .* TSA,O=Trial. These counters existed at .* TSA,O=Trial.$' out
-printf '\n' >>manifest
-keys verify --key key.pem --manifest manifest --stamped manifest-stamp --tsa-ca trial/ca.pem signed
-holds 'a manifest that was changed: status' test "$status" = 2
-keys verify --key key.pem --manifest <(:) --stamped manifest-stamp --tsa-ca trial/ca.pem signed
-holds 'a manifest that is a pipe: status' test "$status" = 2
+keys stamp signed --tsa-command "$answer good" --tsa-ca trial/ca.pem --out signed-stamp
+holds 'a stamp of another file: status' test "$status" = 0 -a -e signed-stamp -a ! -e signed.tsr
 
 # ---- stamps that don't hold: another file, another authority, no stamp
 keys verify --key key.pem --counters <(cat counters counters) "${stamped[@]}" signed
@@ -140,8 +128,8 @@ SSL_CERT_FILE=$scratch/trial/ca.pem keys "${verify[@]}" --stamped counters.tsr -
 says 'an authority that this machine trusts' '(T2)'
 keys "${verify[@]}" --stamped counters.tsr --tsa-ca other/ca.pem --tsa-ca trial/ca.pem signed
 holds 'two authorities' test "$status" = 0
-keys "${verify[@]}" --stamped counters.tsr --stamped manifest-stamp --tsa-ca trial/ca.pem signed
-says 'one of two stamps is of another file' 'the time stamp manifest-stamp isn'\''t of the counters'
+keys "${verify[@]}" --stamped counters.tsr --stamped signed-stamp --tsa-ca trial/ca.pem signed
+says 'one of two stamps is of another file' 'the time stamp signed-stamp isn'\''t of the counters'
 # wrong WHAT TEXT KEY=VALUE..: a stamp that is put together with these values is refused.
 wrong() {
     local what=$1 text=$2
@@ -313,7 +301,7 @@ says 'no --tsa-ca' '--stamped needs the authority of the time stamp service: --t
 keys "${verify[@]}" --tsa-ca trial/ca.pem signed
 says '--tsa-ca alone' '--tsa-ca is the authority of a time stamp: name the stamp with --stamped'
 keys verify --key key.pem "${stamped[@]}" signed
-says 'nothing that is stamped' '--stamped is a time stamp of counters or of a manifest'
+says 'nothing that is stamped' '--stamped is a time stamp of counters: name them with --counters'
 
 # ---- a certificate that runs out soon, names of strangers, weak authorities
 stamps brief . brief 30

@@ -286,9 +286,9 @@ def check_checked(checked: Dict[str, object], log: str, messages: int, options: 
         with open(path, "rb") as file:
             octets = file.read()
         return {"name": path, "size": len(octets), "sha256": hashlib.sha256(octets).hexdigest()}
-    assert list(checked) == ["line", "time", "machine", "tool", "ssign", "options", "files", "keys", "counters", "manifest",
+    assert list(checked) == ["line", "time", "machine", "tool", "ssign", "options", "files", "keys", "counters",
                              "answers", "stamps"], checked
-    assert checked["line"] == "checked" and checked["machine"] is None and checked["manifest"] is None, checked
+    assert checked["line"] == "checked" and checked["machine"] is None, checked
     assert checked["stamps"] == [], checked
     assert re.fullmatch("[0-9]{4}-[0-9]{2}-[0-9]{2}T[0-9]{2}:[0-9]{2}:[0-9]{2}Z", str(checked["time"])), checked
     assert checked["files"] == [{**digest(log), "compressed": None, "plain_size": None, "plain_sha256": None,

@@ -143,7 +143,7 @@ else
 fi
 nothing_shown='Nothing in this log is shown to be authentic. Whatever was signed may have been taken out.'
 printf '' >void
-void='ssign-keys: warning: void: the log is empty, so it shows nothing: only counters or a manifest show whether something is missing'
+void='ssign-keys: warning: void: the log is empty, so it shows nothing: only counters show whether something is missing'
 keys verify --key keys/public-key.pem void
 warned=$void
 says 'an empty log' 1 "Verdict: NOTHING IS SHOWN: the log is empty. $nothing_shown"
@@ -506,7 +506,6 @@ while read -r given; do
     refuses "another version: ${given%% *}" "ssign-keys: the program ./other is ssign 0.0.9, and it has to be $("$program" --version): name that with --ssign"
 done <<'END'
 verify --key keys/public-key.pem stored
-verify --key keys/public-key.pem --nights stored stored
 sign --key keys/private-key.pem --rsid 1 stored
 END
 SSIGN=./other keys verify --key keys/public-key.pem --answers-out unkept stored

@@ -1,6 +1,6 @@
 #!/usr/bin/env bash
 # `ssign-keys sign` with wraps, with real keys: a log of messages that can't be signed as they are is signed, verified, and
-# taken out of its wraps octet for octet; with --state that is the default; and each option that refuses it still does.
+# taken out of its wraps octet for octet; and each option that refuses it still does.
 # shellcheck source=tests/lib.sh
 . "$(dirname -- "$0")/lib.sh"
 need_program
@@ -60,29 +60,10 @@ clean 'with --wrap' signed
 keys sign --key keys/private-key.pem --rsid 1 --lines --no-wrap odd.log
 holds 'with --no-wrap: refused' test "$status" = 2 -a ! -s out
 
-# ---- with --state it is the default, and the session goes on
-keys sign --key keys/private-key.pem --state state --new-session --lines odd.log
-holds 'with --state: signed' test "$status" = 0
-holds 'with --state: what is said' told
-cp out monday
-keys sign --key keys/private-key.pem --state state --lines odd.log
-cp out tuesday
-clean 'the first night' monday
-keys verify --key keys/public-key.pem monday tuesday
-holds 'two nights of a session: status 0' test "$status" = 0
-keys sign --key keys/private-key.pem --state state --lines --no-wrap odd.log
-holds 'with --state --no-wrap: refused' test "$status" = 2 -a ! -s out
-keys sign --key keys/private-key.pem --state state --lines --set-aside aside odd.log
-holds 'with --state --set-aside: set aside' test "$status" = 1 -a -s aside
-holds 'with --state --set-aside: no wrap' test "$(grep -c 'signed in a wrap' err)" = 0
-printf '<13>1 - h a p - - an ordinary message\n' >plain.log
-keys sign --key keys/private-key.pem --state state --lines plain.log
-holds 'a log without odd messages: nothing is said' test "$status" = 0 -a ! -s err
-
 # ---- an unlisted wrap is shown by its original, with the length of that; a message whose PRI is too great is none (RFC 5424, section 6.2.1)
 long=$(head -c 20000 /dev/zero | tr '\0' x)
 {
-    cat monday
+    cat signed
     frame "<13>1 - h a p wrapped - |$long"
     frame "<13>1 - h|i a p|q wrapped - |${long//x/|}"
     frame '<192>1 2026-11-27T14:00:00Z h a p wrapped - |no wrap'

@@ -181,7 +181,6 @@ refused() {
 }
 "$keys_program" sign --key one/private-key.pem --rsid 1 --lines lines.log >signed 2>err
 "$keys_program" verify --key one/public-key.pem --allow-sha1 --counters-out counters --answers-out answers signed >out 2>err
-: >manifest
 mkfifo pipe
 python3 -c 'import socket; socket.socket(socket.AF_UNIX).bind("socket")'
 none='it is no regular file'
@@ -198,22 +197,10 @@ for each in pipe socket /dev/zero; do
     refused "$each can't be read: $key" sign --key "$each" --rsid 1 lines.log
     refused "$each can't be read: $key" seal "$each"
     refused "$each can't be read: $key" answer "$each"
-    refused "the manifest $each is no regular file" verify --key one/public-key.pem --nights "$each" .
-    refused "the manifest $each is no regular file" verify --key one/public-key.pem --manifest "$each" signed
-    refused "the manifest $each is no regular file" manifest check "$each" .
 done
 for each in pipe socket; do
     refused "the state file $each has to be a plain file with one name" seal one/private-key.pem --state "$each"
     refused "the state file $each has to be a plain file with one name" seal one/private-key.pem --each --state "$each"
-done
-mkdir state
-for file in session lock; do
-    rm -f "state/$file"
-    mkfifo "state/$file"
-    timeout 20 "$keys_program" sign --key one/private-key.pem --state state lines.log </dev/null >out 2>err
-    status=$?
-    expect "a pipe in the place of the $file of a state" 2 '' 'SOME TEXT'
-    holds "a pipe in the place of the $file of a state: why" grep -q "$none" err
 done
 # what the shell makes of `<(..)` is on purpose, and so is standard input
 "$keys_program" verify --raw --allow-sha1 --key one/public-key.pem --counters counters signed >wanted 2>err
@@ -260,7 +247,7 @@ late 'ssign-keys: the command openssl came to no end in 0.5 seconds' ssign_keys 
 cp one/private-key.pem mine.pem
 for mode in 620 602 622 666 660 777; do
     chmod $mode mine.pem
-    for each in 'seal mine.pem' 'sign --key mine.pem --rsid 1 lines.log' 'live --key mine.pem --state live --out out.live --lines'; do
+    for each in 'seal mine.pem' 'sign --key mine.pem --rsid 1 lines.log' 'live --key mine.pem --folder live --lines'; do
         read -r -a words <<<"$each"
         refused "others may change the private key mine.pem, by its mode 0$mode: \`chmod go-w mine.pem\`, and see that it is still yours" "${words[@]}"
     done

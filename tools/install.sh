@@ -110,6 +110,7 @@ list_files() {
     put 755 "$root/tools/archive" share/suhvatek/ssign-archive
     put_all share/suhvatek/ssign_keys "$root"/tools/ssign_keys/*.py
     put_all share/suhvatek/ssign_keys/chain "$root"/tools/ssign_keys/chain/*.py
+    put_all share/suhvatek/ssign_keys/live "$root"/tools/ssign_keys/live/*.py
     put_all share/suhvatek/ssign_keys/check "$root"/tools/ssign_keys/check/*.py
     put_all share/suhvatek/ssign_archive "$root"/tools/ssign_archive/*.py
     put_all share/man/man1 "$root"/man/*.1
@@ -266,7 +267,7 @@ uninstall_all() {
         [[ ! -e $file && ! -L $file || -w ${file%/*} ]] || refuse "nothing can be taken out of ${file%/*}: run it as a user who may; nothing was taken away"
     done
     # what an interpreter compiled, where it was started without -B
-    rm -rf -- "$destination$prefix"/share/suhvatek/ssign_{keys,keys/chain,keys/check,archive}/__pycache__
+    rm -rf -- "$destination$prefix"/share/suhvatek/ssign_{keys,keys/chain,keys/check,keys/live,archive}/__pycache__
     # the list goes last, so that a second try knows all that is left
     if ! rm -f -- "${paths[@]}" || ! rm -f -- "$destination$prefix/$manifest"; then
         refuse 'not everything could be taken away: run make uninstall again'

@@ -66,18 +66,16 @@ class Checked(NamedTuple):
     logs: List[CheckedLog]
     keys: List[Given]
     counters: Optional[Digest]
-    manifest: Optional[Digest]
     answers: Digest
     """The answers file; its name is empty where it isn't kept."""
     stamps: Sequence[Stamped]
-    """The time stamps of the counters and the manifest."""
+    """The time stamps of the counters."""
     begin: Optional[Digest] = None
     """The counters with which the night begins, if it is one night of a session that goes on."""
 
-    def kept_files(self, counters: str, begin: str, manifest: str) -> List[Tuple[str, Optional[Digest]]]:
+    def kept_files(self) -> List[Tuple[str, Optional[Digest]]]:
         """What was kept apart, each with the word for it. Where a night begins is there only if it was given."""
-        night = [] if self.begin is None else [(begin, self.begin)]
-        return [(counters, self.counters), *night, (manifest, self.manifest)]
+        return [("counters", self.counters), *([] if self.begin is None else [("from", self.begin)])]
 
     def fields(self) -> Dict[str, object]:
         """As JSON has it."""
@@ -85,7 +83,7 @@ class Checked(NamedTuple):
             "time": self.time, "machine": None if self.machine is None else shown_name(self.machine),
             "tool": self.tool.fields(), "ssign": self.ssign.fields(), "options": [shown_name(it) for it in self.options],
             "files": [it.fields() for it in self.logs], "keys": [key_fields(it) for it in self.keys],
-            **{what: digest_fields(it) for what, it in self.kept_files("counters", "from", "manifest")},
+            **{what: digest_fields(it) for what, it in self.kept_files()},
             "answers": dict(self.answers.fields(), name=shown_name(self.answers.name) or None),
             "stamps": [it.fields() for it in self.stamps],
         }
@@ -97,7 +95,7 @@ class Checked(NamedTuple):
 
     def other_lines(self) -> List[str]:
         """What there is besides logs and keys, as lines for a person."""
-        said = [f"{what}: {digest_words(it)}" for what, it in self.kept_files("counters", "from", "manifest") if it is not None]
+        said = [f"{what}: {digest_words(it)}" for what, it in self.kept_files() if it is not None]
         said += [f"time stamp: {it.words()}" for it in self.stamps]
         answers = digest_words(self.answers._replace(name=self.answers.name or "not kept"))
         said += [f"answers: {answers}", f"program: {program_words(self.ssign)}", f"tool: {program_words(self.tool)}",
@@ -152,8 +150,8 @@ def checked_logs(log: Log, messages: int) -> List[CheckedLog]:
 def make_checked(arguments: argparse.Namespace, time: str, programs: Sequence[Program], logs: List[CheckedLog],
                  keys: List[Given], files: Sequence[Optional[Digest]], answers: Digest,
                  stamps: Sequence[Stamped]) -> Checked:
-    """What was checked: with the tool and ssign, and up to the counters and the manifest, with their time stamps."""
+    """What was checked: with the tool and ssign, and up to the counters, with their time stamps."""
     tool, ssign = programs
-    counters, manifest, begin = files
+    counters, begin = files
     machine = socket.gethostname() if arguments.hostname else None
-    return Checked(time, machine, tool, ssign, given_options(arguments), logs, keys, counters, manifest, answers, stamps, begin)
+    return Checked(time, machine, tool, ssign, given_options(arguments), logs, keys, counters, answers, stamps, begin)

@@ -16,7 +16,6 @@ TOOL = usage.Tool(
         "verify": "say what a signed log proves, with the originator's public key",
         "check": "check all signed files of originators, and whether what was seen is still there",
         "alarm": "fail if the last clean check is too old, by its status file",
-        "manifest": "keep a list of signed logs, and check logs against it",
         "stamp": "have a time stamp service sign when a file existed, such as the newest signed one",
         "seal": "sign what `ssign plan` wants to have signed",
         "answer": "answer what `ssign questions` asks about keys and signatures",
@@ -27,19 +26,13 @@ TOOL = usage.Tool(
         "sign": (
             "ssign-keys sign --key keys/private-key.pem --app signer messages.log > signed.frames",
             "ssign-keys sign --key keys/private-key.pem --folder /var/log/signed",
-            "ssign-keys sign --key keys/private-key.pem --state session --new-session --host gate monday.log > monday.frames",
-            "ssign-keys sign --key keys/private-key.pem --state session tuesday.log > tuesday.frames",
         ),
         "live": (
-            "ssign-keys live --key keys/private-key.pem --state /var/lib/ssign/live --out /var/log/signed --lines < pipe",
+            "ssign-keys live --key keys/private-key.pem --folder /var/log/signed --lines < pipe",
         ),
         "verify": ("ssign-keys verify --key keys/public-key.pem signed.frames",),
         "check": ("ssign-keys check /srv/logs --trust /etc/ssign/trust --memory /var/lib/ssign-check --expect 26h",),
         "alarm": ("ssign-keys alarm /var/lib/ssign-check/srv-logs.json --older 2d",),
-        "manifest": (
-            "ssign-keys manifest add manifest signed.frames --counters counters",
-            "ssign-keys manifest check manifest /srv/logs --logs '*.frames'",
-        ),
         "stamp": (
             "ssign-keys stamp counters --tsa https://tsa.example.org/tsr --tsa-ca tsa-ca.pem",
             "ssign-keys stamp --folder /var/log/signed --tsa https://tsa.example.org/tsr --tsa-ca tsa-ca.pem",

@@ -17,18 +17,8 @@ from .texts import quoted
 OWN = "keys"
 # what each means
 CODES = {
-    "L1": "Another process uses the state or the output. Stop it first; each signer needs folders of its own.",
-    "L2": "Neither file of the state is whole: put both files back as they were, or give --new-session. Or the folder is one of "
-          "sign --state: name another one.",
-    "L3": "The key or an option differs from that of the session. Give those of the session, or --new-session.",
-    "L4": "The state is older than what was signed. Put the newest state back, or give --new-session.",
-    "L5": "Nobody signs, because the seal command or ssign fails, or the command gives a signature that verify wouldn't take. Mend "
-          "it. Messages are taken and confirmed until 9,900 of them wait for a block.",
-    "L6": "No greater RSID is left. Set the clock, or begin with another --app in other folders.",
-    "L7": "The disk failed. See that it is sound, and start again: the start compares what is there.",
-    "T1": "The stamp is of another file. The counters or the manifest were changed after it, or it belongs to those of another "
-          "time. The refusal has the SHA-256 of the stamped file: give the file that has it. If no copy has it, don't rely on "
-          "these counters.",
+    "T1": "The stamp is of another file. The counters were changed after it, or it belongs to those of another time. The refusal "
+          "has the SHA-256 of the stamped file: give the file that has it. If no copy has it, don't rely on these counters.",
     "T2": "No authority of --tsa-ca vouches for the stamp. Another service made it, its certificate isn't for time stamps or "
           "wasn't valid at the stamp's time, or its signature isn't valid. See that --tsa-ca has the authority of your service. "
           "If the refusal names a serial number, give the certificate that has it by --tsa-ca-anchor. If the stamp is refused "

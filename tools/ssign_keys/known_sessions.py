@@ -16,13 +16,13 @@ from .blocks import Session
 from .defaults import USUAL_FIELDS, only
 from .faults import Fault
 from .files import open_lock, open_regular, reason
-from .session_file import MOST_RSID
 from .store import replace
 from .words import shown_name
 from .workplace import notify
 
 VARIABLE = "SSIGN_SESSIONS"
 SUFFIX = ".sessions"
+MOST_RSID = 9999999999
 NAMED = ("host", "app", "procid")
 SESSION = re.compile(r"([!-~]{1,255}) ([!-~]{1,48}) ([!-~]{1,128}) (0|[1-9][0-9]{0,9})")
 # the names of 100,000 machines
@@ -85,8 +85,7 @@ class KnownSessions:
         last = known.get(session[:3], -1)
         if int(session.rsid) <= last:
             raise Fault(f"--rsid {int(session.rsid)}: with this key a session of {spelled(session)} was begun with the RSID {last} "
-                        f"({self.name}), and one that begins needs a greater one: leave --rsid out. To go on in one session, sign "
-                        "with --state")
+                        f"({self.name}), and one that begins needs a greater one: leave --rsid out")
         return known
 
     def _read(self) -> Dict[Names, int]:
@@ -150,13 +149,6 @@ class KnownSessions:
             notify(f"ssign-keys: warning: the sessions of this key {why}. So a session that is begun twice isn't noticed; {VARIABLE} "
                    "names another file for them")
         self._can_keep = False
-
-
-def keep_names(arguments: argparse.Namespace, before: Dict[str, str]) -> None:
-    """Gives a session that begins the names of the one before, by its options, where none are given."""
-    for option in NAMED:
-        if not getattr(arguments, option):
-            setattr(arguments, option, [before[option]])
 
 
 def session_of(arguments: argparse.Namespace, rsid: Optional[int] = None) -> Optional[Session]:

@@ -54,7 +54,6 @@ KINDS: Dict[str, Kind] = {
     "out of order": Kind("group", "out of order", "listed messages don't stand in the order of their numbers"),
     "damaged": Kind("part", "damaged", "octets of the log that are no message"),
     "torn": Kind("log", "torn", "it breaks off in a message"),
-    "manifest": Kind("difference", "found by the manifest", "a log isn't as its entry says"),
     "not joined": Kind("session", "not joined", "its signatures were ignored"),
     "SHA-1": Kind("session", "based on SHA-1", "two texts with one hash can be made"),
     "unverified": Kind("block", "unverified", "nothing that it announces is used"),

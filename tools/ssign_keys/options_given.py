@@ -9,11 +9,11 @@ from .words import shown_name
 
 # options that the verdict, or its form, depends on. The others say where something is kept, or how fast the run is
 VALUED = ("key", "ca", "ca-anchor", "cert", "trust", "seen", "max-payload", "max-len", "max-messages", "max-expanded", "counters", "from",
-          "manifest", "manifest-last", "manifest-seen", "stamped", "tsa-ca", "tsa-ca-anchor")
-FLAGS = ("from-manifest", "at-signing-time", "allow-sha1", "ignore-strangers", "lines", "frames", "whole", "any-order", "findings",
+          "stamped", "tsa-ca", "tsa-ca-anchor")
+FLAGS = ("at-signing-time", "allow-sha1", "ignore-strangers", "lines", "frames", "whole", "any-order", "findings",
          "raw", "json", "details", "hostname")
 PAIRS = ("session-key",)
-LEFT_OUT = ("nights", "html", "answers-out", "counters-out", "jobs", "ssign", "help")
+LEFT_OUT = ("html", "answers-out", "counters-out", "jobs", "ssign", "help")
 # those that say how much is printed, which a page doesn't repeat
 REPEATED_NOT = tuple(f"--{it}" for it in ("findings", "raw", "json", "details", "hostname"))
 DEFAULTS = {"max-payload": 65536}
@@ -38,8 +38,7 @@ def given_files(arguments: argparse.Namespace, program: str) -> List[str]:
     """The names of all files that a check reads."""
     named = [*arguments.logs, *arguments.keys, *arguments.ca, *arguments.ca_anchor, *arguments.cert,
              *(it for _, it in arguments.session_key), *(arguments.counters or []), *(arguments.begin or []),
-             *([arguments.manifest] if arguments.manifest else []), *arguments.stamped, *arguments.tsa_ca,
-             *arguments.tsa_ca_anchor, *([arguments.trust] if arguments.trust else []), program]
+             *arguments.stamped, *arguments.tsa_ca, *arguments.tsa_ca_anchor, *([arguments.trust] if arguments.trust else []), program]
     return [it for it in named if it != "-"]
 
 

@@ -40,8 +40,8 @@ MOST_TEXT, SHORT_TEXT = 300000, 120
 class Page(Weighed):
     """Collects what a page has, as the report is read."""
 
-    def __init__(self, reviewed: Reviewed, other_findings: Sequence[Tuple[str, str]]) -> None:
-        """Findings that a report doesn't have, as those of a manifest: each with where it is, and what it is."""
+    def __init__(self, reviewed: Reviewed) -> None:
+        """Nothing is collected yet."""
         super().__init__(reviewed.survey, MOST_ROWS, reviewed.unproved)
         self._reviewed = reviewed
         self._times = reviewed.detailed().times
@@ -56,8 +56,6 @@ class Page(Weighed):
         self._spans = {(it.session, it.sg, it.spri): (it.first, max(it.last, (it.next_number or 1) - 1))
                        for it in reviewed.survey.reach}
         self._places = Strip((None, -1, -1), 0, reviewed.survey.totals.messages - 1)
-        for where, what in other_findings:
-            self.found("manifest", where, what)
 
     # ---- findings
 

@@ -120,7 +120,7 @@ def repeat_part(checked: Checked, status: int) -> Markup:
     shown_logs = checked.logs[:MOST_LOGS]
     files = [(it.digest.name, it.digest.sha256) for it in shown_logs]
     stamps = [it.digest for it in checked.stamps]
-    files += [(it.name, it.sha256) for it in (checked.counters, checked.begin, checked.manifest, *stamps) if it is not None]
+    files += [(it.name, it.sha256) for it in (checked.counters, checked.begin, *stamps) if it is not None]
     for name, sha256 in files:
         if name == "-":
             lines.append(f"# standard input had the SHA-256 {sha256}")

@@ -148,8 +148,8 @@ def warn_of_empty(log: Log) -> None:
     """Reports each log without an octet, from which nothing can be missing. Whoever names /dev/null knows."""
     for part, end in log.spans():
         if part.offset == end and part.name != os.devnull:
-            notify(f"ssign-keys: warning: {named(part.name)}: the log is empty, so it shows nothing: only counters or a manifest show "
-                   "whether something is missing")
+            notify(f"ssign-keys: warning: {named(part.name)}: the log is empty, so it shows nothing: only counters show whether something "
+                   "is missing")
 
 
 def warn_of_damage(log: Log, messages: int) -> None:
@@ -251,9 +251,6 @@ def long_seal(case: Case) -> str:
 
 def used_up(case: Case) -> str:
     """O8 and O9."""
-    if state_name(case):
-        return f"{case.name}: its messages or blocks can't be counted up to 9999999999 in this session: begin another with " \
-            "--new-session"
     return f"{case.name}: its messages or blocks can't be counted up to 9999999999: sign the log in parts"
 
 
@@ -268,33 +265,15 @@ def long_answers(case: Case) -> str:
     return f"{case.name}: its signatures fill more than 4294967295 octets: take the log in parts"
 
 
-def state_name(case: Case) -> str:
-    """The folder of a session that goes on; nothing where there is none."""
-    folder = getattr(case.arguments, "state", None)
-    return shown_name(folder) if folder else ""
-
-
 def counters_name(case: Case) -> str:
     """The counters file."""
-    if state_name(case):
-        return f"the counters of the state {state_name(case)}"
     given = getattr(case.arguments, "read_counters", None) or getattr(case.arguments, "counters", None)
     return f"the counters file {shown_name(given[0])}" if given else "the counters file"
 
 
-def no_session(case: Case) -> str:
-    """C5."""
-    return f"{counters_name(case)}: they have no session with these names and this RSID"
-
-
-def other_group(case: Case) -> str:
-    """C6."""
-    return f"{counters_name(case)}: the line `count` number {case.where} is of a group that --groups doesn't have"
-
-
 def unwritten(case: Case) -> Optional[str]:
     """W1 and Q1, of a passing file or pipe."""
-    if hasattr(case.arguments, "logs") or state_name(case):
+    if hasattr(case.arguments, "logs"):
         return "a passing file can't be written; TMPDIR names the folder for it"
     return None
 
@@ -302,5 +281,5 @@ def unwritten(case: Case) -> Optional[str]:
 OWN: Dict[str, Callable[[Case], Optional[str]]] = {
     "F1": bad_length, "F2": too_long, "F5": framed, "F9": framed, "P1": broken_off,
     "O6": no_seal, "O7": long_seal, "O8": used_up, "O9": used_up,
-    "A1": own_answers, "A2": own_answers, "A3": long_answers, "C5": no_session, "C6": other_group, "W1": unwritten, "Q1": unwritten,
+    "A1": own_answers, "A2": own_answers, "A3": long_answers, "W1": unwritten, "Q1": unwritten,
 }

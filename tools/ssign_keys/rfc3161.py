@@ -42,12 +42,12 @@ TIME = re.compile(rb"([0-9]{14})(\.[0-9]{1,9})?Z")
 # the parts of an accuracy: the tag, how many microseconds one is, and the least and the greatest that may stand there
 SECOND = 10 ** 6
 ACCURACY = ((der.INTEGER, SECOND, 0, None), (0x80, 1000, 1, 999), (0x81, 1, 1, 999))
-# by a worse accuracy, in microseconds, nobody could say in which night a file existed
+# by a worse accuracy, in microseconds, nobody could say on which day a file existed
 WORST = 24 * 60 * 60 * SECOND
 # how far a time may be after the clock of this machine, and that of a new stamp before it, in seconds
 EARLY, LATE = 5 * 60, 60 * 60
 # what a verdict calls a file that is stamped
-THESE = {"counters": "These counters", "manifest": "This manifest", "file": "This file"}
+THESE = {"counters": "These counters", "file": "This file"}
 # how many letters of a stranger's text a sentence holds
 SHOWN = 200
 # how openssl says what is wrong: the library, the function, the reason, the file, the line, and more
@@ -93,7 +93,7 @@ class Stamped(NamedTuple):
     digest: Digest
     """The file of the time stamp."""
     of: str
-    """What it is of: `counters`, `manifest` or `file`."""
+    """What it is of: `counters` or `file`."""
     stamp: TimeStamp
 
     @property

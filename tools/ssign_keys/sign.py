@@ -2,20 +2,17 @@
 from __future__ import annotations
 
 import argparse
-import contextlib
 import subprocess
 import time
 from typing import BinaryIO, Callable, Iterable, Iterator, List, Optional, Union
 
 from . import expand as expand_options
 from . import form as forms
-from . import ongoing
 from . import set_aside as set_aside_options
 from . import wrapping as wrapping_options
 from .chain import options as folder_options
 from .defaults import fill, machine_name
 from .describer import Describer
-from .faults import Fault
 from .keys import PrivateKey, read_private_key
 from .known_sessions import KnownSessions
 from .logs import Log, open_log
@@ -23,8 +20,7 @@ from .programs import Refused, Run, add_limit_arguments, add_program_argument, f
 from .progress import Progress
 from .refusals import fault_of, named, warn_of_form
 from .schemes import SHA1, SHA256
-from .seal import Check, seals
-from .session_state import SessionState
+from .seal import seals
 from .set_aside import SetAside
 from .unsigned import warning
 from .workplace import Workplace, finish, put, notify
@@ -58,7 +54,6 @@ def add_arguments(parser: argparse.ArgumentParser) -> None:
     folder_options.add_arguments(parser)
     for name, (value, meaning) in OPTIONS.items():
         parser.add_argument(f"--{name}", action="append", metavar=value, help=meaning)
-    ongoing.add_arguments(parser)
     set_aside_options.add_arguments(parser)
     wrapping_options.add_arguments(parser)
     forms.add_arguments(parser)
@@ -78,19 +73,15 @@ def run(arguments: argparse.Namespace) -> int:
     progress = Progress()
     log: Optional[Log] = None
     try:
-        with Workplace() as workplace, SetAside(arguments.set_aside) as aside, state_of(arguments) as state:
+        with Workplace() as workplace, SetAside(arguments.set_aside) as aside:
             wrapping = Wrapping(arguments)
             aside.check()
             named_form = forms.named_form(arguments)
             key = read_private_key(arguments.key)
             known = KnownSessions(arguments.key)
-            session = None
-            if state is None:
-                arguments.host = arguments.host or [machine_name()]
-                known.begin(arguments, int(time.time()))
-                fill(arguments, key.public)
-            else:
-                session = ongoing.settle(arguments, state, key.public, known)
+            arguments.host = arguments.host or [machine_name()]
+            known.begin(arguments, int(time.time()))
+            fill(arguments, key.public)
             log = open_log([arguments.log], named_form, workplace, progress, arguments.max_expanded, refuses_links=True)
             reading = log_words(arguments, log.are_lines)
             warn(arguments.log, log)
@@ -98,24 +89,14 @@ def run(arguments: argparse.Namespace) -> int:
             wrapping.count(program, reading, signable, workplace, progress)
             words = [*reading, *handed_on(arguments, list(OPTIONS)), *wrapping.words()]
 
-            def seal_log(words: List[str], log: Log, check: Optional[Check] = None) -> str:
-                return seal(program, words, key, log, workplace, progress, check, known.take)
-
-            def write_log(words: List[str], seals_path: str, log: Log, out: Union[BinaryIO, int] = 1) -> int:
-                return write(program, words, seals_path, log, workplace, progress, out)
-
-            if state is None or session is None:
-                try:
-                    seals_path = seal_log(words, signable)
-                except Refused as refused:
-                    if refused.code != NO_MESSAGE or not wrapping.begin_for_old(program, reading, signable, workplace, progress):
-                        raise
-                    words = [*words, *wrapping.words()]
-                    seals_path = seal_log(words, signable)
-                status = write_log(words, seals_path, signable)
-            else:
-                signing = ongoing.Signing(program, state, session, known, workplace, progress)
-                status = signing.sign(words, signable, seal_log, write_log)
+            try:
+                seals_path = seal(program, words, key, signable, workplace, progress, known.take)
+            except Refused as refused:
+                if refused.code != NO_MESSAGE or not wrapping.begin_for_old(program, reading, signable, workplace, progress):
+                    raise
+                words = [*words, *wrapping.words()]
+                seals_path = seal(program, words, key, signable, workplace, progress, known.take)
+            status = write(program, words, seals_path, signable, workplace, progress)
             progress.clear()
             aside.notify()
             wrapping.notify()
@@ -130,15 +111,6 @@ def run(arguments: argparse.Namespace) -> int:
         progress.clear()
 
 
-def state_of(arguments: argparse.Namespace) -> contextlib.AbstractContextManager[Optional[SessionState]]:
-    """The folder of a session that goes on, or None where no option names one."""
-    if arguments.state is not None:
-        return SessionState(arguments.state, arguments.new_session)
-    if arguments.new_session:
-        raise Fault("--new-session goes with --state FOLDER")
-    return contextlib.nullcontext()
-
-
 def warn(name: str, log: Log) -> None:
     """Says of a log what nothing refuses, and what still is seldom meant."""
     warn_of_form(log)
@@ -148,8 +120,8 @@ def warn(name: str, log: Log) -> None:
 
 
 def seal(program: str, words: List[str], key: PrivateKey, log: Log, workplace: Workplace, progress: Progress,
-         check: Optional[Check], begin: Callable[[], None]) -> str:
-    """Plans the log and signs what that wants and a check doesn't refuse. Gives the path of the answers file.
+         begin: Callable[[], None]) -> str:
+    """Plans the log and signs what that wants. Gives the path of the answers file.
 
     `begin` is called when the plan has succeeded, before anything is signed.
     """
@@ -159,7 +131,7 @@ def seal(program: str, words: List[str], key: PrivateKey, log: Log, workplace: W
         progress.show("planning", log.position(), log.size, "octets")
 
     with workplace.new_file("seals") as file, Describer(program) as describer:
-        for count, line in enumerate(seals(after_first(planning.lines(tick), begin), key, describer, check), 1):
+        for count, line in enumerate(seals(after_first(planning.lines(tick), begin), key, describer), 1):
             progress.show("signing", count, 0, "blocks")
             put(file, line)
         finish(file)

@@ -1,4 +1,4 @@
-"""Has a time stamp service sign when a file existed (RFC 3161): counters, a manifest, or the newest signed file of a folder.
+"""Has a time stamp service sign when a file existed (RFC 3161): counters, or the newest signed file of a folder.
 
 Its answer is kept beside the file.
 """
@@ -32,7 +32,7 @@ from .workplace import Workplace, finish, notify, put
 def add_arguments(parser: argparse.ArgumentParser) -> None:
     """Says which words the command takes."""
     what = parser.add_mutually_exclusive_group(required=True)
-    what.add_argument("file", nargs="?", metavar="FILE", help="the file to be stamped, such as counters or a manifest")
+    what.add_argument("file", nargs="?", metavar="FILE", help="the file to be stamped, such as counters")
     what.add_argument("--folder", metavar="DIR", help="stamp the newest signed file of DIR, of `ssign-keys sign --folder`, as "
                       f"LOG.frames{ENDING} beside it, unless that is there: `ssign-keys check` reads it")
     service = parser.add_mutually_exclusive_group(required=True)

@@ -1,4 +1,4 @@
-"""The time stamps that `verify --stamped` is given: each has to be of the very octets of the counters or the manifest."""
+"""The time stamps that `verify --stamped` is given: each has to be of the very octets of the counters."""
 from __future__ import annotations
 
 import argparse
@@ -38,8 +38,8 @@ NONE = Stamps([], [])
 def add_arguments(parser: argparse.ArgumentParser) -> None:
     """Says how time stamps are given."""
     parser.add_argument("--stamped", action="append", default=[], metavar="STAMP", help="a time stamp of the file of "
-                        "--counters or --manifest, as `ssign-keys stamp` keeps it: the verdict says since when that file exists, "
-                        "and a stamp that doesn't hold is refused")
+                        "--counters, as `ssign-keys stamp` keeps it: the verdict says since when that file exists, and a stamp that "
+                        "doesn't hold is refused")
     add_authorities(parser)
 
 
@@ -59,20 +59,19 @@ def refuse_lone(arguments: argparse.Namespace) -> None:
         raise Fault("--stamped needs the authority of the time stamp service: --tsa-ca CA.pem")
     if has_authority and not arguments.stamped:
         raise Fault("--tsa-ca is the authority of a time stamp: name the stamp with --stamped")
-    if arguments.stamped and not (arguments.counters or arguments.manifest or arguments.nights):
-        raise Fault("--stamped is a time stamp of counters or of a manifest: name them with --counters or --manifest")
+    if arguments.stamped and not arguments.counters:
+        raise Fault("--stamped is a time stamp of counters: name them with --counters")
 
 
-def check_stamps(arguments: argparse.Namespace, counters: Optional[Digest], manifest: Optional[Digest],
-                 workplace: Workplace) -> Stamps:
-    """The time stamps, where all of them hold of these files as they were read. Raises Fault with T1 to T4 (docs/dev/FORMATS.md,
+def check_stamps(arguments: argparse.Namespace, counters: Optional[Digest], workplace: Workplace) -> Stamps:
+    """The time stamps, where all of them hold of the counters as they were read. Raises Fault with T1 to T4 (docs/dev/FORMATS.md,
     "A time stamp")."""
     if not arguments.stamped:
         return NONE
     # this takes half of the time of a start, so it is loaded where a time stamp is checked
     from .rfc3161 import check_stamp, read_authorities
     authorities = read_authorities(arguments.tsa_ca, arguments.tsa_ca_anchor)
-    wanted = {what: it.sha256 for what, it in (("counters", counters), ("manifest", manifest)) if it is not None}
+    wanted = {} if counters is None else {"counters": counters.sha256}
     return Stamps([check_stamp(read_stamp(it), it, wanted, authorities, workplace) for it in arguments.stamped],
                   authorities.given)
 

@@ -34,8 +34,7 @@ GROUPS: Dict[str, Tuple[str, ...]] = {
     "a folder of logs": ("--folder", "--match", "--quiet", "--beat", "--no-beat", "--begin"),
     "the session": ("--rsid", "--host", "--app", "--procid", "--msgid", "--pri", "--stamp"),
     "the blocks": ("--payload", "--ver", "--groups", "--count", "--frag", "--copies"),
-    "what is reported": ("--whole", "--from", "--counters", "--nights", "--manifest", "--from-manifest", "--manifest-last",
-                         "--stamped", "--findings", "--details", "--hostname", "--raw", "--json", "--html", "--answers-out",
+    "what is reported": ("--whole", "--from", "--counters", "--stamped", "--findings", "--details", "--hostname", "--raw", "--json", "--html", "--answers-out",
                          "--counters-out"),
     "the run": ("--jobs", "--part", "--ssign"),
 }

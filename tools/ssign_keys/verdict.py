@@ -24,9 +24,6 @@ WRONG = "Nothing in this log is shown to be authentic. Either you gave the wrong
 ENDED = {"revoked": "a revoked key", "expired": "an expired key", "early": "a key that isn't valid yet"}
 # so many keys of strangers are named
 MOST_KEYS = 3
-# what to do where ssign found nothing wrong, and nothing is listed
-SILENT = "A night without a message looks the same: `ssign-keys verify --nights MANIFEST FOLDER` judges it by its entry, beside the " \
-    "other nights."
 
 
 @dataclass
@@ -45,8 +42,6 @@ class Facts:
     """How much of the log the counters cover, where some were given."""
     broken: Broken
     """Messages that hold the mark of a block and are none."""
-    manifest_findings: int = 0
-    """In how much the logs differ from a manifest."""
     on_sha1: int = 0
     """How many sessions rest on SHA-1."""
     is_night: bool = False
@@ -99,14 +94,8 @@ class Facts:
 
     @property
     def status(self) -> int:
-        """The status of the verdict: that of the program, and 1 if refused blocks aren't to be ignored, or the manifest differs."""
-        is_found = self.totals.refused > 0 and not self.are_strangers_ignored
-        return at_least(self.program_status, is_found or self.manifest_findings)
-
-
-def at_least(status: int, found: object) -> int:
-    """A status, and no less than 1 where anything else was found."""
-    return max(status, 1 if found else 0)
+        """The status of the verdict: that of the program, and at least 1 if blocks are refused that aren't to be ignored."""
+        return max(self.program_status, int(self.totals.refused > 0 and not self.are_strangers_ignored))
 
 
 def sentence(facts: Facts) -> str:
@@ -118,8 +107,6 @@ def sentence(facts: Facts) -> str:
     said += order(facts) + facts.broken.sentences()
     if not facts.totals.listed:
         said += f" {nothing(facts)}"
-        if facts.review_status == 0 and "joined" in facts.states and not facts.manifest_findings:
-            said += f" {SILENT}"
     return " ".join([said + covered(facts), *unbound(facts.unbound), *facts.stamps])
 
 
@@ -204,7 +191,6 @@ def other_findings(facts: Facts) -> List[str]:
         unjoined_words(facts, unjoined),
         several(absent, "session that the counters name isn't here", "sessions that the counters name aren't here"),
         sha1.finding(facts.on_sha1),
-        several(facts.manifest_findings, "difference from the manifest", "differences from the manifest"),
         "the log breaks off" if totals.torn is not None and totals.messages else "",
     ]
 

@@ -38,7 +38,6 @@ from .workplace import finish, notify, put
 
 if TYPE_CHECKING:
     from .json_verdict import JsonVerdict
-    from .manifested import Listed
     from .page import Page
     from .times import Owners, Times
 
@@ -78,13 +77,12 @@ class Verifier:
     printed as it stands comes from a second review, by the same answers.
     """
 
-    def __init__(self, runs: Runs, missing: Missing, listed: Optional[Listed], choose: Choose, reads_lines: bool = False) -> None:
+    def __init__(self, runs: Runs, missing: Missing, choose: Choose, reads_lines: bool = False) -> None:
         """Who reads each line of the report, needs them at once."""
         self._runs = runs
         self.arguments = arguments = runs.arguments
         self.missing = missing
         self._log = runs.log
-        self._listed = listed
         self._choose = choose
         self._workplace = runs.workplace
         self._progress = runs.progress
@@ -195,14 +193,11 @@ class Verifier:
     def _survey(self) -> Survey:
         """Goes over the report. That of a log that was written on is of another log, and is refused."""
         self._log.check_unchanged()
-        listed, missing = self._listed, self.missing
+        missing = self.missing
         messages = messages_of(self._report)
         survey = Survey(self.notes(), bool(missing.words), missing.counters, missing.begin, not self.arguments.any_order,
                         0 if self.arguments.html is None else messages)
         beside: List[ReportVisitor] = []
-        if listed is not None:
-            listed.refuse_other(self._log)
-            beside.append(listed.begin_extents())
         if is_detailed(self.arguments):
             from .times import Owners
             self._owners = Owners(survey, messages)
@@ -234,8 +229,7 @@ class Verifier:
         inspected, claims, broken = self._inspect(survey, shown)
         claims.compare(stored)
         facts = Facts(self._status, survey.totals, survey.states, survey.missing or 0, survey.reach.coverage(),
-                      broken, 0 if self._listed is None else self._listed.compare(),
-                      survey.on_sha1, missing.begin is not None, stamps.sentences,
+                      broken, survey.on_sha1, missing.begin is not None, stamps.sentences,
                       strangers.count_strangers(claims, survey),
                       arguments.ignore_strangers, [shown_name(it) for it in trust.unbound_files(survey.joined)],
                       dict(survey.other_keys), trust.given_words, arguments.any_order, len(stored.places), dict(survey.ended))
@@ -326,17 +320,15 @@ class Verifier:
 
     def show(self, reviewed: Reviewed) -> Iterator[bytes]:
         """Makes the page, and gives the pieces of what is to be printed. All is made first; the report is read once."""
-        arguments, listed = self.arguments, self._listed
-        pages = [] if arguments.html is None else [self._page(reviewed, listed)]
+        arguments = self.arguments
+        pages = [] if arguments.html is None else [self._page(reviewed)]
         if arguments.raw:
-            self._notify(reviewed.facts, arguments, listed)
+            self._notify(reviewed.facts, arguments)
             pieces = raw_pieces(self._report, arguments.findings)
             if pages:
                 self.read(*pages)
         else:
             out = self._workplace.new_file("out")
-            if listed is not None:
-                listed.put(out, arguments.json)
             form = make_form(out, reviewed, arguments)
             self.read(form, *pages)
             front = form.verdict()
@@ -349,10 +341,8 @@ class Verifier:
         return pieces
 
     @staticmethod
-    def _notify(facts: Facts, arguments: argparse.Namespace, listed: Optional[Listed]) -> None:
+    def _notify(facts: Facts, arguments: argparse.Namespace) -> None:
         """Says on standard error what standard output doesn't have, where that is the report alone."""
-        if listed is not None:
-            listed.notify()
         if facts.on_sha1 and not arguments.allow_sha1 and facts.review_status == 0:
             sha1.say_finding(facts.on_sha1)
         if facts.is_of_other_keys:
@@ -364,12 +354,11 @@ class Verifier:
         for it in facts.stamps:
             notify(f"ssign-keys: {it}")
 
-    def _page(self, reviewed: Reviewed, listed: Optional[Listed]) -> Page:
+    def _page(self, reviewed: Reviewed) -> Page:
         """A page, to which nothing was handed yet."""
         from .page import Page
-        found = [] if listed is None else [(it.where, it.what) for it in listed.found]
         # the form reads them at the same time
-        return Page(reviewed._replace(notes=self.notes()), found)
+        return Page(reviewed._replace(notes=self.notes()))
 
     def _are_damaged_frames(self) -> bool:
         """Whether a log that begins as lines do has blocks as frames: then its first length is damaged."""

@@ -3,17 +3,15 @@ from __future__ import annotations
 
 import argparse
 import subprocess
-from typing import TYPE_CHECKING, List, Optional, Tuple
+from typing import List, Optional, Tuple
 
 from . import expand as expand_options
 from . import form as forms
-from . import manifest_options
 from . import sha1
 from . import shown
 from . import stamped as stamp_options
 from . import strangers
 from . import trust as trust_options
-from .counters_file import file_of
 from .defaults import longest
 from .digests import digest_of
 from .faults import Fault
@@ -34,10 +32,7 @@ from .stamped import NONE, check_stamps
 from .survey import Survey
 from .trust import Trust
 from .verifier import Missing, Verifier, is_detailed
-from .workplace import Workplace, finish, notify, put
-
-if TYPE_CHECKING:
-    from .manifested import Listed
+from .workplace import Workplace, notify
 
 TOOL = "ssign-keys"
 
@@ -63,7 +58,6 @@ def add_arguments(parser: argparse.ArgumentParser) -> None:
                         "on, which begins at the counters of FILE, as `ssign counters` wrote them of the night before: "
                         "nothing below them is missing; also does what --whole does")
     add_jobs(parser)
-    manifest_options.add_arguments(parser)
     stamp_options.add_arguments(parser)
     form = parser.add_mutually_exclusive_group()
     form.add_argument("--raw", action="store_true", help="print the report of `ssign review` as it stands; the status is "
@@ -88,9 +82,6 @@ def add_arguments(parser: argparse.ArgumentParser) -> None:
 
 def run(arguments: argparse.Namespace) -> int:
     """Prints the verdict, and gives its status: that of `ssign review`, or 1 where nothing is listed."""
-    if arguments.nights is not None:
-        from . import nights
-        return nights.run(arguments)
     verification = Verification(arguments)
     try:
         return verification.run()
@@ -129,16 +120,14 @@ class Verification:
             refuse_two_counters("--counters", arguments.counters)
             refuse_two_counters("--from", arguments.begin)
             stamp_options.refuse_lone(arguments)
-            refuse_two_begins(arguments)
             refuse_one_pipe(arguments.begin, arguments.counters, arguments.logs)
             trust = Trust.from_arguments(arguments)
-            listed = manifest_options.read_listed(arguments)
-            log, verifier = self._open(listed, workplace)
+            log, verifier = self._open(workplace)
             reviewed = verifier.review(trust, self._stamps)
             if is_detailed(arguments):
-                reviewed = reviewed._replace(details=self._details(verifier, reviewed, trust, listed))
+                reviewed = reviewed._replace(details=self._details(verifier, reviewed, trust))
             verifier.name_unused(trust)
-            if listed is None and not arguments.begin and not arguments.raw:
+            if not arguments.begin and not arguments.raw:
                 name_part(reviewed.survey)
             pieces = verifier.show(reviewed)
             if arguments.html is not None:
@@ -152,31 +141,27 @@ class Verification:
             page_file.name()
             return reviewed.facts.status
 
-    def _open(self, listed: Optional[Listed], workplace: Workplace) -> Tuple[Log, Verifier]:
+    def _open(self, workplace: Workplace) -> Tuple[Log, Verifier]:
         """Opens the log, once all that ssign is asked for is known to be right."""
         arguments, program, progress = self._arguments, self._program, self.progress
         named_form = forms.named_form(arguments)
         missing = find_missing(program, arguments, workplace, progress)
         # of the octets that were read for this check, before anything else is put after them
-        self._stamps = check_stamps(arguments, missing.digest, None if listed is None else listed.digest, workplace)
+        self._stamps = check_stamps(arguments, missing.digest, workplace)
         log = self._log = open_log(arguments.logs, named_form, workplace, progress, arguments.max_expanded)
         log.longest = longest(arguments)
         warn_of_form(log)
-        if listed is None and not arguments.counters and not arguments.begin:
+        if not arguments.counters and not arguments.begin:
             warn_of_empty(log)
-        if listed is not None:
-            missing = add_counters(missing, listed.look(log), workplace)
-            if arguments.from_manifest:
-                missing = add_begin(missing, listed.begin(), workplace)
-        return log, Verifier(Runs(program, arguments, log, workplace, progress), missing, listed, shown.choose)
+        return log, Verifier(Runs(program, arguments, log, workplace, progress), missing, shown.choose)
 
-    def _details(self, verifier: Verifier, reviewed: Reviewed, trust: Trust, listed: Optional[Listed]) -> Details:
+    def _details(self, verifier: Verifier, reviewed: Reviewed, trust: Trust) -> Details:
         """What was checked, and the times of the log."""
         from .checked import checked_logs, make_checked
         from .program_facts import ssign_facts, tool_facts
         programs = tool_facts(TOOL), ssign_facts(self._program, "--ssign" if self._arguments.ssign else "the variable SSIGN")
         logs = checked_logs(reviewed.log, reviewed.survey.totals.messages)
-        files = verifier.missing.digest, None if listed is None else listed.digest, verifier.missing.begin_digest
+        files = verifier.missing.digest, verifier.missing.begin_digest
         answers = digest_of(self._arguments.answers_out or "", verifier.answers_path)
         checked = make_checked(self._arguments, self._time, programs, logs, [*trust.given, *self._stamps.authorities], files,
                                answers, self._stamps.stamped)
@@ -218,12 +203,6 @@ def refuse_two_counters(option: str, paths: Optional[List[str]]) -> None:
         raise Fault(f"{option} can be given only once: put the files one after another (`cat`)")
 
 
-def refuse_two_begins(arguments: argparse.Namespace) -> None:
-    """Refuses two places from which a night begins."""
-    if arguments.begin and arguments.from_manifest:
-        raise Fault("--from doesn't go with --from-manifest: a night begins at one of them")
-
-
 def refuse_one_pipe(begin: Optional[List[str]], counters: Optional[List[str]], logs: List[str]) -> None:
     """Refuses a pipe for both the log and counters, because what reads it later would find it empty."""
     pipes = [paths[0] for paths in (begin, counters) if paths and is_standard_pipe(paths[0])]
@@ -255,29 +234,6 @@ def find_missing(program: str, arguments: argparse.Namespace, workplace: Workpla
             raise nothing_shown(arguments.counters[0])
         missing = missing._replace(counters=kept, digest=digest_of(arguments.counters[0], path))
     return missing
-
-
-def add_counters(missing: Missing, lines: List[bytes], workplace: Workplace) -> Missing:
-    """Has the review use these lines too, which are those of a counters file."""
-    if not lines:
-        return missing
-    path = workplace.path("counters")
-    if missing.counters is None:
-        workplace.new_file("counters").close()
-    with open(path, "ab") as file:
-        put(file, file_of(b"".join(lines)))
-        finish(file)
-    words = [it for it in missing.words if not it.startswith("--counters=")] + [f"--counters={path}"]
-    return missing._replace(words=words, counters=read_counters(path))
-
-
-def add_begin(missing: Missing, lines: bytes, workplace: Workplace) -> Missing:
-    """Has the review begin at these counters, which are lines of a counters file; with none the first night begins."""
-    with workplace.new_file("begin") as file:
-        put(file, file_of(lines))
-        finish(file)
-    path = workplace.path("begin")
-    return missing._replace(words=[*missing.words, f"--from={path}"], begin=read_counters(path))
 
 
 def try_words(program: str, words: List[str], workplace: Workplace, progress: Progress) -> None:

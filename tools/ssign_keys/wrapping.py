@@ -27,8 +27,8 @@ def add_arguments(parser: argparse.ArgumentParser) -> None:
     """Says whether messages are wrapped; `wrap` and `no_wrap` of the parsed arguments."""
     which = parser.add_mutually_exclusive_group()
     which.add_argument("--wrap", action="store_true", help="sign each message that can't be signed in a wrap: a message of RFC "
-                       "5424 that holds all its octets (default with --state, and if all such messages have the form of RFC 3164; else "
-                       "such a log is refused)")
+                       "5424 that holds all its octets (default if all such messages have the form of RFC 3164; else such a log "
+                       "is refused)")
     which.add_argument("--no-wrap", action="store_true", help="refuse each log with a message that can't be signed")
 
 
@@ -36,11 +36,10 @@ class Wrapping:
     """Which messages are signed in wraps. It decides nothing: ssign does."""
 
     def __init__(self, arguments: argparse.Namespace) -> None:
-        """As the options say: with --state messages are wrapped, unless they are refused or set aside."""
+        """As the options say."""
         if arguments.wrap and arguments.set_aside is not None:
             raise Fault("--wrap and --set-aside: a message is signed in a wrap or set aside, so leave one of the two out")
-        goes_on = arguments.state is not None and arguments.set_aside is None
-        self._is_asked: bool = arguments.wrap or goes_on and not arguments.no_wrap
+        self._is_asked: bool = arguments.wrap
         self._is_left_open = not self._is_asked and not arguments.no_wrap and arguments.set_aside is None
         self._forget()
 

@@ -12,7 +12,7 @@ use Rattle.ssign.specs.declared.refusal.Refusal.{Refusal}
 use Rattle.ssign.specs.declared.refusal.Refusal.TheVariants.{NoOption, SalvagedLines, UnansweredAsk, Extraction, From, Counters}
 use Rattle.ssign.specs.declared.refusal.Refusal.TheVariants.{Pinned, Answers, Settings, Resume, Start, Run, Questions}
 use Rattle.ssign.specs.declared.refusal.Refusal.TheVariants.{LateAnswers, LateRun, Signing, NoCode, NoEntry}
-use Rattle.ssign.specs.declared.refusal.Refusal.TheVariants.{PlainFacts, Facts, Places, Describing}
+use Rattle.ssign.specs.declared.refusal.Refusal.TheVariants.{PlainFacts, Facts, Places, Describing, Spelling, Folder, Living}
 use Rattle.ssign.specs.declared.task.Task.{Task}
 use Rattle.ssign.specs.declared.task.Task.TheVariants.{Review}
 
@@ -40,6 +40,9 @@ unasked_at_once files m task before after was is (LateRun fault) why = why
 unasked_at_once files m task before after was is (Signing fault) why = why
 unasked_at_once files m task before after was is NoEntry why = why
 unasked_at_once files m task before after was is (Describing fault) why = why
+unasked_at_once files m task before after was is (Spelling fault) why = why
+unasked_at_once files m task before after was is (Folder fault) why = why
+unasked_at_once files m task before after was is (Living fault) why = why
 unasked_at_once files m task before after was is NoCode why = why
 
 -- the same of a review that writes its questions
@@ -66,6 +69,9 @@ unasked_asking path given old new m before after was is (LateRun fault) why = ab
 unasked_asking path given old new m before after was is (Signing fault) why = why
 unasked_asking path given old new m before after was is NoEntry why = why
 unasked_asking path given old new m before after was is (Describing fault) why = why
+unasked_asking path given old new m before after was is (Spelling fault) why = why
+unasked_asking path given old new m before after was is (Folder fault) why = why
+unasked_asking path given old new m before after was is (Living fault) why = why
 unasked_asking path given old new m before after was is NoCode why = why
 
 -- the options by themselves ask nothing
@@ -92,6 +98,9 @@ failed_unasked files m task (LateRun fault) why = absurd why
 failed_unasked files m task (Signing fault) why = absurd why
 failed_unasked files m task NoEntry why = absurd why
 failed_unasked files m task (Describing fault) why = absurd why
+failed_unasked files m task (Spelling fault) why = absurd why
+failed_unasked files m task (Folder fault) why = absurd why
+failed_unasked files m task (Living fault) why = absurd why
 failed_unasked files m task NoCode why = absurd why
 
 -- they say what is asked

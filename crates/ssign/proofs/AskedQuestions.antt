@@ -103,6 +103,9 @@ ends_unasked path given old new m before after was is a (refusals.LateAnswers fa
 ends_unasked path given old new m before after was is a (refusals.Signing fault) asked why = absurd why
 ends_unasked path given old new m before after was is a refusals.NoEntry asked why = absurd why
 ends_unasked path given old new m before after was is a (refusals.Describing fault) asked why = absurd why
+ends_unasked path given old new m before after was is a (refusals.Spelling fault) asked why = absurd why
+ends_unasked path given old new m before after was is a (refusals.Folder fault) asked why = absurd why
+ends_unasked path given old new m before after was is a (refusals.Living fault) asked why = absurd why
 ends_unasked path given old new m before after was is a refusals.NoCode asked why = absurd why
 
 -- what comes before a run comes before the questions
@@ -128,6 +131,9 @@ is_early (refusals.Run fault) late early = cc
 is_early (refusals.Signing fault) late early = cc
 is_early refusals.NoEntry late early = cc
 is_early (refusals.Describing fault) late early = cc
+is_early (refusals.Spelling fault) late early = cc
+is_early (refusals.Folder fault) late early = cc
+is_early (refusals.Living fault) late early = cc
 is_early refusals.NoCode late early = cc
 
 pub is_no_write : (fault : RunFault) → is_write fault ≡ false → fault ≢ Write

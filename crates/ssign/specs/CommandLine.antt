@@ -15,11 +15,11 @@ use Rattle.ss_frame.specs.Limits.{Allowance}
 use Rattle.ss_frame.specs.declared.limits.Form.{Form}
 use Rattle.ss_frame.specs.declared.limits.Form.TheVariants.{Frames, Lines}
 use Rattle.ssign.specs.declared.command_line.Order.{Order}
-use Rattle.ssign.specs.declared.command_line.Order.TheVariants.{Log, Sent, Describe, Explain}
+use Rattle.ssign.specs.declared.command_line.Order.TheVariants.{Log, Sent, Describe, Spell, Live, Explain}
 use Rattle.ssign.specs.declared.task.Reporting.{Reporting}
 use Rattle.ssign.specs.declared.task.Task.TheVariants.{Review, Questions, Extract, Inspect, Counters, Carry}
 use Rattle.ssign.specs.declared.signing.Signing.TheVariants.{Plan, Sign}
-use Rattle.ssign.specs.Options.{AreVersions, Kept, flag_rule, place_rule, reading_rules}
+use Rattle.ssign.specs.Options.{AreVersions, Kept, flag_rule, living_rules, place_rule, reading_rules}
 use Rattle.ssign.specs.Options.{signing_rules, text_rule, words_rule}
 use Rattle.ss_report.specs.declared.forms.report_form.ReportForm.{ReportForm}
 use Rattle.ss_report.specs.declared.forms.report_form.ReportForm.TheVariants as forms
@@ -128,6 +128,8 @@ name_of (Log Carry) = codes "carry"
 name_of (Sent Plan) = codes "plan"
 name_of (Sent Sign) = codes "sign"
 name_of Describe = codes "describe"
+name_of Spell = codes "spell"
+name_of Live = codes "live"
 name_of Explain = codes "explain"
 
 -- its own options, in their order
@@ -157,6 +159,8 @@ own_rules (Sent Sign) =
     text_rule (codes "answers") ∷ text_rule (codes "resume") ∷ flag_rule (codes "wrap") ∷ flag_rule (codes "lines-out")
     ∷ []
 own_rules Describe = []
+own_rules Spell = []
+own_rules Live = living_rules
 own_rules Explain = words_rule (codes "code") ∷ flag_rule (codes "json") ∷ []
 
 -- those after them that it shares
@@ -164,6 +168,8 @@ abbrev pub shared_rules : Kept → Order → List Rule
 shared_rules versions (Log task) = reading_rules
 shared_rules versions (Sent signing) = signing_rules versions
 shared_rules versions Describe = []
+shared_rules versions Spell = []
+shared_rules versions Live = []
 shared_rules versions Explain = []
 
 -- of the versions of blocks it takes those that are kept
@@ -175,7 +181,7 @@ order_app versions order =
 abbrev pub orders : List Order
 orders =
     Log Review ∷ Log Questions ∷ Log Extract ∷ Log Inspect ∷ Sent Plan ∷ Sent Sign ∷ Log Counters ∷ Log Carry
-    ∷ Describe ∷ Explain
+    ∷ Describe ∷ Spell ∷ Live ∷ Explain
     ∷ []
 
 -- what the command of this name asks for
@@ -222,7 +228,7 @@ IsUsageFault kinds = (kinds ≢ []) × ¬ (IsAmong DisplayHelp kinds) × ¬ (IsA
 abbrev pub AreMistaken : List (List ℕ) → Type 0
 AreMistaken words = (versions : Kept) → AreVersions versions → IsUsageFault (fault_of (ssign_app versions) words)
 
--- 0 for a clean log, a plan, a signed log or an explanation, 1 for findings, 2 for a refusal
+-- 0 for a clean log, a plan, a signed log, a run that has ended or an explanation, 1 for findings, 2 for a refusal
 abbrev pub status_of : {E : Type 0} → Result Verdict E → ℕ
 status_of (Ok Clean) = 0
 status_of (Ok Findings) = 1

@@ -9,14 +9,16 @@ use Rattle.ss_answers.specs.PlaceInput.{ArePlacesOfFile, IsPlacesFileFault}
 use Rattle.ss_answers.specs.declared.fault.AnswerFault.{AnswerFault}
 use Rattle.ss_answers.specs.declared.counters.fault.CounterFault.{CounterFault}
 use Rattle.ss_answers.specs.declared.places.fault.PlaceFault.{PlaceFault}
+use Rattle.ssign.specs.Lives.{Lives}
 
--- what the file of each path may give as a file of counters, of known payloads, of places and of answers, or why it gives
--- none
+-- What the file of each path may give as a file of counters, of known payloads, of places and of answers, or why it gives
+-- none. What runs over the folder of each path may come to, whose files have this stem.
 pub record Contents : Type 1 where
   pub counters : List ℕ → Result (List Counter) CounterFault → Type 0
   pub payloads : List ℕ → Result (List (List ℕ)) AnswerFault → Type 0
   pub places : List ℕ → Result (List ℕ) PlaceFault → Type 0
   pub answers : List ℕ → Result (List Answer) AnswerFault → Type 0
+  pub lives : (path stem : List ℕ) → Lives
 
 -- what comes of an option of a file: nothing if it isn't given, and else what the file gives
 abbrev pub Gives : {T E : Type 0} → (List ℕ → Result T E → Type 0) → Option (List ℕ) → Result (Option T) E → Type 0
@@ -27,13 +29,15 @@ Gives contents (Some path) (Ok None) = ⊥
 Gives contents (Some path) (Ok (Some value)) = contents path (Ok value)
 Gives contents (Some path) (Err fault) = contents path (Err fault)
 
--- A file of the system: no contract sees which octets it holds. What is read of it is read of some text.
-abbrev pub of_system : Contents
-of_system = record {
+-- A file of the system: no contract sees which octets it holds. What is read of it is read of some text. What runs over a
+-- folder come to is among what these do.
+abbrev pub of_system : Lives → Contents
+of_system lives = record {
   counters = λ path result. MatchResult result AreCountersOfFile IsCountersFileFault;
   payloads = λ path result. MatchResult result ArePayloadsOfFile IsFileFault;
   places = λ path result. MatchResult result ArePlacesOfFile IsPlacesFileFault;
   answers = λ path result. MatchResult result AreOfFile IsFileFault;
+  lives = λ path stem. lives;
 }
 
 -- ---- what is written

@@ -3,6 +3,9 @@ pub mod GivenFiles
 pub mod LogOrder
 pub mod AskOrder
 pub mod SigningOrder
+pub mod Living
+pub mod Lives
+pub mod LivingOrder
 pub mod Orders
 pub mod Refusal
 pub mod CommandLine

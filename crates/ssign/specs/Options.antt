@@ -12,7 +12,7 @@ use Rattle.ssign.specs.declared.options.Need.{Need}
 use Rattle.ssign.specs.declared.options.Need.TheVariants.{Free, Required, Usual}
 use Rattle.ssign.specs.declared.options.OptionRow.{OptionRow}
 use Rattle.ssign.specs.declared.options.Value.{Value}
-use Rattle.ssign.specs.declared.options.Value.TheVariants.{Flag, File, Text, Number, Numbers, Version, Words}
+use Rattle.ssign.specs.declared.options.Value.TheVariants.{Flag, File, Folder, Text, Number, Numbers, Version, Words}
 
 -- texts that the program keeps
 abbrev pub Kept : Type 0
@@ -69,6 +69,7 @@ usual_rule rule usual = record rule { defaults = usual ∷ [] }
 abbrev pub value_rule : Kept → OptionRow → Value → Rule
 value_rule versions row Flag = flag_rule row.name.now
 value_rule versions row File = text_rule row.name.now
+value_rule versions row Folder = text_rule row.name.now
 value_rule versions row Text = text_rule row.name.now
 value_rule versions row Number = number_rule row.name.now row.range.0 row.range.1
 value_rule versions row Numbers = numbers_rule row.name.now row.range.0 row.range.1
@@ -113,6 +114,16 @@ signing_rules versions =
     ∷ usual_rule (number_rule (codes "count") (pos 1) (pos 99)) (codes "10")
     ∷ usual_rule (number_rule (codes "frag") (pos 1) (pos 9999)) (codes "500")
     ∷ usual_rule (number_rule (codes "copies") (pos 1) (pos 9)) (codes "1") ∷ reading_rules
+
+-- how messages are signed as they come, with the ranges and defaults of the options above
+abbrev pub living_rules : List Rule
+living_rules =
+    required_rule (text_rule (codes "folder")) ∷ required_rule (text_rule (codes "stem"))
+    ∷ required_rule (text_rule (codes "payload")) ∷ usual_rule (number_rule (codes "pri") (pos 0) (pos 191)) (codes "110")
+    ∷ usual_rule (text_rule (codes "host")) (codes "-") ∷ usual_rule (text_rule (codes "app")) (codes "-")
+    ∷ usual_rule (text_rule (codes "procid")) (codes "-") ∷ usual_rule (text_rule (codes "msgid")) (codes "-")
+    ∷ usual_rule (number_rule (codes "count") (pos 1) (pos 99)) (codes "10")
+    ∷ usual_rule (number_rule (codes "frag") (pos 1) (pos 9999)) (codes "500") ∷ []
 
 -- which message of the log is extracted: its place, of as many messages as are allowed
 abbrev pub place_rule : Rule

@@ -9,13 +9,15 @@ use Rattle.ss_report.specs.declared.fault.RunFault.TheVariants as run
 use Rattle.ss_report.specs.declared.verdict.verdict.Verdict.{Verdict}
 use Rattle.ss_report.specs.declared.verdict.verdict.Verdict.TheVariants.{Clean, Findings}
 use Rattle.ss_signed.specs.Runs.{DescribesAll, EndsDescribing}
+use Rattle.ss_spelled.specs.Runs.{SpellsAll, EndsSpelling}
 use Rattle.ssign.specs.CommandLine.{is_given}
 use Rattle.ssign.specs.Explanation.{asked_of, explained}
 use Rattle.ssign.specs.AskOrder.{EndsLog, ask_path}
 use Rattle.ssign.specs.GivenFiles.{Files}
+use Rattle.ssign.specs.LivingOrder.{EndsLive}
 use Rattle.ssign.specs.SigningOrder.{EndsSigning}
 use Rattle.ssign.specs.declared.command_line.Order.{Order}
-use Rattle.ssign.specs.declared.command_line.Order.TheVariants.{Log, Sent, Describe, Explain}
+use Rattle.ssign.specs.declared.command_line.Order.TheVariants.{Log, Sent, Describe, Spell, Live, Explain}
 use Rattle.ssign.specs.declared.explanations.Tables.{Tables}
 use Rattle.ssign.specs.declared.refusal.Refusal.{Refusal}
 use Rattle.ssign.specs.declared.refusal.Refusal.TheVariants as refusals
@@ -55,6 +57,13 @@ EndsDescribed before after was is (Ok Findings) = ⊥
 EndsDescribed before after was is (Err (refusals.Describing fault)) = EndsDescribing before after was is (Err fault)
 EndsDescribed before after was is (Err _) = ⊥
 
+-- the same of a run over lines about fragments
+abbrev pub EndsSpelled : (before after : Source) → (was is : Sink) → Result Verdict Refusal → Type 0
+EndsSpelled before after was is (Ok Clean) = SpellsAll before after was is
+EndsSpelled before after was is (Ok Findings) = ⊥
+EndsSpelled before after was is (Err (refusals.Spelling fault)) = EndsSpelling before after was is (Err fault)
+EndsSpelled before after was is (Err _) = ⊥
+
 -- where a command writes questions: the file of `--ask` of a review, if it is given
 abbrev pub questions_path : Order → ArgMatches → Option (List ℕ)
 questions_path (Log task) m = ask_path task m
@@ -68,4 +77,6 @@ Ends old new tables m (Log task) before after was is result = EndsLog old new m 
 Ends old new tables m (Sent signing) before after was is result =
     EndsSigning old.contents m signing before after was is result
 Ends old new tables m Describe before after was is result = EndsDescribed before after was is result
+Ends old new tables m Spell before after was is result = EndsSpelled before after was is result
+Ends old new tables m Live before after was is result = EndsLive old.contents m before after was is result
 Ends old new tables m Explain before after was is result = (after ≡ before) × EndsExplaining tables m was is result

@@ -8,14 +8,16 @@ use Rattle.ss_signing.specs.declared.fault.SignFault.{SignFault}
 use Rattle.ss_signing.specs.declared.fault.SignFault.TheVariants as signing
 use Rattle.ss_signing.specs.FaultCode.{sign_fault_code}
 use Rattle.ss_answers.specs.FaultCode.{answer_fault_code, counter_fault_code, place_fault_code, start_fault_code}
+use Rattle.ss_live.specs.FaultCode.{live_fault_code}
 use Rattle.ss_signed.specs.FaultCode.{describe_fault_code}
-use Rattle.ssign.specs.FaultCode.{questions_fault_code, settings_fault_code}
+use Rattle.ss_spelled.specs.FaultCode.{spell_fault_code}
+use Rattle.ssign.specs.FaultCode.{folder_fault_code, questions_fault_code, settings_fault_code}
 use Rattle.ssign.specs.declared.extraction.ExtractionFault.TheVariants as extraction
 use Rattle.ssign.specs.declared.refusal.Refusal.{Refusal}
 use Rattle.ssign.specs.declared.refusal.Refusal.TheVariants.{NoOption, SalvagedLines, Extraction, From, Counters, Pinned}
 use Rattle.ssign.specs.declared.refusal.Refusal.TheVariants.{Answers, Settings, Resume, Start, Run, Signing, NoCode}
 use Rattle.ssign.specs.declared.refusal.Refusal.TheVariants.{NoEntry, UnansweredAsk, Questions, LateAnswers, LateRun}
-use Rattle.ssign.specs.declared.refusal.Refusal.TheVariants.{PlainFacts, Facts, Places, Describing}
+use Rattle.ssign.specs.declared.refusal.Refusal.TheVariants.{PlainFacts, Facts, Places, Describing, Spelling, Folder, Living}
 
 -- what is seen of a code
 abbrev pub code_seen : Option Code → Option (List ℕ × Option ℕ)
@@ -47,6 +49,9 @@ refusal_code (LateAnswers fault) = Some (answer_fault_code fault)
 refusal_code (LateRun fault) = Some (run_fault_code fault)
 refusal_code (Signing fault) = Some (sign_fault_code fault)
 refusal_code (Describing fault) = Some (describe_fault_code fault)
+refusal_code (Spelling fault) = Some (spell_fault_code fault)
+refusal_code (Folder fault) = Some (folder_fault_code fault)
+refusal_code (Living fault) = Some (live_fault_code fault)
 refusal_code NoCode = None
 refusal_code NoEntry = None
 
@@ -55,6 +60,8 @@ abbrev pub is_before_run : Refusal → Bool
 is_before_run (Run fault) = false
 is_before_run (Signing fault) = false
 is_before_run (Describing fault) = false
+is_before_run (Spelling fault) = false
+is_before_run (Living fault) = false
 is_before_run (Questions fault) = false
 is_before_run (LateAnswers fault) = false
 is_before_run (LateRun fault) = false
@@ -76,10 +83,13 @@ abbrev pub is_write_of_signing : SignFault → Bool
 is_write_of_signing (signing.Run fault) = is_write fault
 is_write_of_signing _ = false
 
--- something may have been written: a call of the writer failed, or lines were answered before the one that wasn't
+-- something may have been written: a call of the writer failed, or lines or events were answered before the one that
+-- wasn't
 abbrev pub may_have_written : Refusal → Bool
 may_have_written (Run fault) = is_write fault
 may_have_written (LateRun fault) = is_write fault
 may_have_written (Signing fault) = is_write_of_signing fault
 may_have_written (Describing fault) = true
+may_have_written (Spelling fault) = true
+may_have_written (Living fault) = true
 may_have_written _ = false

@@ -12,7 +12,7 @@ use Rattle.ssign.specs.declared.refusal.Refusal.{Refusal}
 use Rattle.ssign.specs.declared.refusal.Refusal.TheVariants as refusals
 use Rattle.ssign.specs.declared.refusing.Remark.{Remark}
 use Rattle.ssign.specs.declared.refusing.Remark.TheVariants.{Nothing, AnswersFile, QuestionsFile, CountersFile}
-use Rattle.ssign.specs.declared.refusing.Remark.TheVariants.{FromFile, PinnedFile, FactsFile, PlacesFile, ResumeFile, Text, Cause}
+use Rattle.ssign.specs.declared.refusing.Remark.TheVariants.{FromFile, PinnedFile, FactsFile, PlacesFile, ResumeFile, Folder, Text, Cause}
 use Rattle.ssign.specs.declared.settings.SettingsFault.{SettingsFault}
 use Rattle.ssign.specs.declared.settings.SettingsFault.TheVariants.{OutOfForm, Memory}
 
@@ -45,6 +45,7 @@ IsRemark (refusals.Questions fault) m form octets remark = NamesFile QuestionsFi
 IsRemark (refusals.LateAnswers fault) m form octets remark = NamesFile AnswersFile (path_in m (codes "answers")) remark
 IsRemark (refusals.Resume fault) m form octets remark = NamesFile ResumeFile (path_in m (codes "resume")) remark
 IsRemark (refusals.Start fault) m form octets remark = NamesFile ResumeFile (path_in m (codes "resume")) remark
+IsRemark (refusals.Folder fault) m form octets remark = NamesFile Folder (path_in m (codes "folder")) remark
 IsRemark (refusals.Settings fault) m form octets remark = SaysOfSettings fault m remark
 IsRemark (refusals.Run fault) m form octets remark = remark ≡ cause_remark (run_cause fault form octets)
 IsRemark (refusals.Signing fault) m form octets remark = remark ≡ cause_remark (signing_cause fault form octets)

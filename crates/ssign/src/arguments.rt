@@ -25,6 +25,7 @@ fn valued<'a>(alloc: Global, row: OptionRow, versions: &'a [&'a str]) -> Arg<'a>
     match row.value {
         Value::Flag => flag(alloc, row),
         Value::File => text(alloc, row, "FILE"),
+        Value::Folder => text(alloc, row, "DIR"),
         Value::Text => text(alloc, row, "TEXT"),
         Value::Number => number(alloc, row),
         Value::Numbers => numbers(alloc, row),

@@ -40,12 +40,16 @@ pub enum Order {
     Sent(Signing),
     /// What signed octets say.
     Describe,
+    /// What fragments of payloads spell.
+    Spell,
+    /// A run that signs messages as they come.
+    Live,
     /// What a code means.
     Explain,
 }
 
 /// What the commands ask for, in their order.
-const ORDERS: [Order; 10] = [
+const ORDERS: [Order; 12] = [
     Order::Log(Task::Review),
     Order::Log(Task::Questions),
     Order::Log(Task::Extract),
@@ -55,6 +59,8 @@ const ORDERS: [Order; 10] = [
     Order::Log(Task::Counters),
     Order::Log(Task::Carry),
     Order::Describe,
+    Order::Spell,
+    Order::Live,
     Order::Explain,
 ];
 
@@ -75,6 +81,8 @@ impl Order {
             Order::Sent(Signing::Plan) => commands::PLAN,
             Order::Sent(Signing::Sign) => commands::SIGN,
             Order::Describe => commands::DESCRIBE,
+            Order::Spell => commands::SPELL,
+            Order::Live => commands::LIVE,
             Order::Explain => commands::EXPLAIN,
         }
     }
@@ -337,6 +345,20 @@ pub fn from_file<'a>(matches: &ArgMatches<'a>) -> Option<&'a str>
     ensures { option_map (λ s. s.now) result ≡ first_value (found_of matches.now) (codes "from") }
 {
     matches.get_str(options::FROM.name)
+}
+
+/// The folder that a live signer writes to, if one was given.
+pub fn live_folder<'a>(matches: &ArgMatches<'a>) -> Option<&'a str>
+    ensures { option_map (λ s. s.now) result ≡ first_value (found_of matches.now) (codes "folder") }
+{
+    matches.get_str(options::FOLDER.name)
+}
+
+/// What the names of its files begin with, if it was given.
+pub fn live_stem<'a>(matches: &ArgMatches<'a>) -> Option<&'a str>
+    ensures { option_map (λ s. s.now) result ≡ first_value (found_of matches.now) (codes "stem") }
+{
+    matches.get_str(options::STEM.name)
 }
 
 /// The file of the payloads that are known beforehand, if one was given.

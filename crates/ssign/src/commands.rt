@@ -2,7 +2,7 @@
 use crate::options::{
     AHEAD, ANSWERS, ANSWERS_SEALED, ASK, BLOCKS, BRIEF, CODE, COUNTERS as COUNTERS_FILE, FACTS,
     FINDINGS, FINDINGS_PLAIN, FROM, IGNORE_STRANGERS, IN_ORDER, JSON, JSON_EXPLAINED, LINES_OUT,
-    NO_SHA1, NOT_EMPTY, ONCE, OptionRow, PINNED, PLACE, PLACES, READING, RESUME, SALVAGE,
+    LIVING, NO_SHA1, NOT_EMPTY, ONCE, OptionRow, PINNED, PLACE, PLACES, READING, RESUME, SALVAGE,
     SALVAGE_REPORTED, SIGNING, SOME_LISTED, TALLY, UNLISTED, UNWRAP, UNWRAP_SHOWN, WHOLE, WRAP,
 };
 
@@ -132,6 +132,26 @@ pub const DESCRIBE: CommandRow = CommandRow {
         plan, or yes? PAYLOAD OCTETS SIGNATURE of ssign questions",
     note: Note::Usage("ssign describe < FILE"),
     options: &[],
+    shared: &[],
+};
+
+/// `ssign spell`: which payloads fragments spell.
+pub const SPELL: CommandRow = CommandRow {
+    name: "spell",
+    about: "Writes the payloads that the lines fragment TOTAL INDEX OCTETS spell, as a JSON object for each, at every \
+        line spell",
+    note: Note::Usage("ssign spell < FILE"),
+    options: &[],
+    shared: &[],
+};
+
+/// `ssign live`: messages that are signed as they come.
+pub const LIVE: CommandRow = CommandRow {
+    name: "live",
+    about: "Takes events of a driver, which has the key, from standard input, answers them, and writes messages and \
+        the blocks that sign them to files of a folder; ssign-keys live is such a driver",
+    note: Note::Usage("ssign live --folder DIR --stem TEXT --payload TEXT [OPTIONS]"),
+    options: &LIVING,
     shared: &[],
 };
 

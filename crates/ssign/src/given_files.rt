@@ -4,14 +4,19 @@ ghost use Rattle.std.specs.List.{AllByRecursion};
 ghost use Rattle.ss_review.specs.counted.CounterRange.{IsCounter};
 ghost use Rattle.ss_answers.specs.Answers.{Rise};
 ghost use Rattle.ssign.specs.GivenFiles.{Adds, Contents, Gives, HoldsNothing, WrittenFile};
+ghost use Rattle.ssign.specs.Lives.{AreLives};
 
+use crate::folder_fault::FolderFault;
 use crate::questions_fault::QuestionsFault;
 use ss_answers::{
     AnswerFault, Answers, CounterFault, PlaceFault, open_answers, open_counters, open_payloads,
     open_places,
 };
+use ss_folder::{Folder, Unknown};
+use ss_journal::Disk;
 use ss_octets::{Bytes, List as OwnedList};
 use ss_review::{Counters, Places};
+use std::fs::File;
 use std::io::{BufWriter, Write};
 use std::rt::Files;
 use std::{fs, io};
@@ -30,6 +35,9 @@ pub trait GivenFiles {
     /// A file that is being written.
     type Output: Write + Drop;
 
+    /// A folder whose files a live signer writes.
+    type Folder: Disk + Drop;
+
     /// The counters of a file, in their order.
     fn counters(&self, path: &str) -> Result<Counters, CounterFault>
         ensures given { (contents self.now).counters path.now result }
@@ -47,6 +55,11 @@ pub trait GivenFiles {
     /// The answers of a file.
     fn answers(&self, path: &str) -> Result<Answers, AnswerFault>
         ensures { (contents self.now).answers path.now result };
+
+    /// Opens the folder of this path. The names of its files begin with this stem.
+    fn folder(&self, path: &str, stem: &str) -> Result<Self::Folder, FolderFault>
+        ensures { IfOk result (λ disk. AreLives Self.Folder.seen Self.Folder.may_leave Self.Folder.moment
+            Self.Folder.left_since disk ((contents self.now).lives path.now stem.now)) };
 
     /// Makes the file of this path, or opens it, to write it from its beginning.
     fn create(&mut self, path: &str) -> Result<Self::Output, QuestionsFault>
@@ -74,15 +87,19 @@ impl<'r, R> SystemFiles<'r, R> {
     }
 }
 
-impl<R: Files + AllocGlobal> GivenFiles for SystemFiles<'_, R> {
+impl<R: Files<File = File> + AllocGlobal + Clone + Drop> GivenFiles for SystemFiles<'_, R> {
     ghost use Rattle.std.specs.Prelude.{None};
     ghost use Rattle.ssign.specs.GivenFiles.{of_system};
+    ghost use Rattle.ssign.specs.Lives.{LivesOver};
 
-    ghost contents = { λ _. of_system };
+    ghost contents = { λ _. of_system (LivesOver ⟦<Folder<R, Unknown> as Disk>⟧.seen ⟦<Folder<R, Unknown> as Disk>⟧.may_leave
+        ⟦<Folder<R, Unknown> as Disk>⟧.moment ⟦<Folder<R, Unknown> as Disk>⟧.left_since) };
 
     ghost written = { λ _. None };
 
     type Output = SystemOutput<R::File>;
+
+    type Folder = Folder<R, Unknown>;
 
     fn counters(&self, path: &str) -> Result<Counters, CounterFault> {
         open_counters(self.rt, path)
@@ -101,6 +118,16 @@ impl<R: Files + AllocGlobal> GivenFiles for SystemFiles<'_, R> {
 
     fn answers(&self, path: &str) -> Result<Answers, AnswerFault> {
         open_answers(self.rt, path)
+    }
+
+    fn folder(&self, path: &str, stem: &str) -> Result<Folder<R, Unknown>, FolderFault> {
+        let Ok(rt) = self.rt.clone() else {
+            return Err(FolderFault::Memory);
+        };
+        match Folder::open(rt, path, stem, Unknown) {
+            Ok(folder) => Ok(folder),
+            Err(error) => Err(FolderFault::of_disk(error)),
+        }
     }
 
     fn create(&mut self, path: &str) -> Result<SystemOutput<R::File>, QuestionsFault> {

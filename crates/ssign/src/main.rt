@@ -11,10 +11,12 @@ mod explanations;
 mod extraction;
 mod first_octets;
 mod flags;
+mod folder_fault;
 mod given_files;
 mod groups_text;
 pub mod laws;
 mod likely_cause;
+mod living;
 mod message_count;
 mod negatives;
 mod objects;
@@ -39,9 +41,13 @@ pub use explain::{explained, explanation_of};
 pub use explanations::{Explanation, Tables, all_tables};
 pub use extraction::{ExtractionFault, extraction_of};
 pub use first_octets::FirstOctets;
+pub use folder_fault::FolderFault;
 pub use given_files::{GivenFiles, SystemFiles};
 pub use likely_cause::{LikelyCause, run_cause, signing_cause};
-pub use orders::{run_described, run_explain, run_log, run_order, run_sent};
+pub use living::{Living, living_of};
+pub use orders::{
+    run_described, run_explain, run_lived, run_log, run_order, run_sent, run_spelled,
+};
 pub use outcome::{Notice, Outcome};
 pub use questions_fault::QuestionsFault;
 pub use refusal::Refusal;

@@ -9,6 +9,8 @@ pub enum Value {
     Flag,
     /// The path of a file.
     File,
+    /// The path of a folder.
+    Folder,
     /// A text.
     Text,
     /// A number of the range.
@@ -444,6 +446,23 @@ pub const MAX_MESSAGES: OptionRow = OptionRow {
     ..NUMBER
 };
 
+/// `--folder`: the folder that a live signer writes to. It has to be given.
+pub const FOLDER: OptionRow = OptionRow {
+    name: "folder",
+    need: Need::Required,
+    value: Value::Folder,
+    help: "The folder that the signed messages are written to; only one run at a time may use it",
+    ..FLAG
+};
+
+/// `--stem`: what stands in front of the number in the names of its files. It has to be given.
+pub const STEM: OptionRow = OptionRow {
+    name: "stem",
+    need: Need::Required,
+    help: "What the names of the files begin with: the one that is written is called STEM-NUMBER.open",
+    ..TEXT
+};
+
 /// `--json` of `ssign explain`, where it also stands in place of a code.
 pub const JSON_EXPLAINED: OptionRow = OptionRow {
     help: "Writes a JSON object (RFC 8259) for the code, or without a code one for each that is explained",
@@ -458,6 +477,11 @@ pub const CODE: OptionRow = OptionRow {
         S3), in letters of either case; it may be left out only with --json",
     ..FLAG
 };
+
+/// The options that say how messages are signed as they come.
+pub const LIVING: [OptionRow; 10] = [
+    FOLDER, STEM, PAYLOAD, PRI, HOST, APP, PROCID, MSGID, COUNT, FRAG,
+];
 
 /// The options that say how a log is read.
 pub const READING: [OptionRow; 3] = [LINES, MAX_LEN, MAX_MESSAGES];

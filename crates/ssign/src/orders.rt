@@ -8,9 +8,11 @@ ghost use Rattle.ssign.specs.Refusal.{is_before_questions, is_before_run, may_ha
 mod asking;
 mod describing;
 mod explanation;
+mod living;
 mod log;
 mod prepare;
 mod signing;
+mod spelling;
 
 use crate::command_line::Order;
 use crate::explanations::Tables;
@@ -19,8 +21,10 @@ use crate::refusal::Refusal;
 use clap::ArgMatches;
 pub use describing::run_described;
 pub use explanation::run_explain;
+pub use living::run_lived;
 pub use log::run_log;
 pub use signing::run_sent;
+pub use spelling::run_spelled;
 use ss_frame::Watched;
 use ss_report::Verdict;
 use std::alloc::Global;
@@ -30,8 +34,8 @@ use std::io::{Read, Write};
 ///
 /// # Errors
 ///
-/// As `run_log`, `run_sent`, `run_described` and `run_explain`. Nothing was read if no run had begun. But for a failed
-/// write, and for lines that were answered, nothing was written to the writer.
+/// As `run_log`, `run_sent`, `run_described`, `run_spelled`, `run_lived` and `run_explain`. Nothing was read if no run had
+/// begun. But for a failed write, and for lines or events that were answered, nothing was written to the writer.
 pub fn run_order<F: GivenFiles, R: Read, W: Write>(
     alloc: Global,
     files: &mut F,
@@ -57,6 +61,8 @@ pub fn run_order<F: GivenFiles, R: Read, W: Write>(
         Order::Log(task) => run_log(alloc, files, reader, writer, task, options),
         Order::Sent(signing) => run_sent(alloc, files, reader, writer, signing, options),
         Order::Describe => run_described(alloc, reader, writer),
+        Order::Spell => run_spelled(alloc, reader, writer),
+        Order::Live => run_lived(alloc, files, reader, writer, options),
         Order::Explain => run_explain(alloc, writer, tables, options),
     }
 }

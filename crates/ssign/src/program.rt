@@ -21,12 +21,24 @@ use clap::error::ErrorKind;
 use clap::{ArgMatches, Error};
 use ss_frame::Watched;
 use std::alloc::{AllocError, Global};
+use std::fs::File;
 use std::io::{Read, Write};
 use std::rt::{Clock, Env, Files};
 use std::{env, io};
 
 /// Runs the program, and gives its exit status.
-pub fn run<R: Input + Print + Eprint + Screen + Env + Files + Clock + AllocGlobal>(rt: &R) -> u8
+pub fn run<
+    R: Input
+        + Print
+        + Eprint
+        + Screen
+        + Env
+        + Files<File = File>
+        + Clock
+        + AllocGlobal
+        + Clone
+        + Drop,
+>(rt: &R) -> u8
     ensures { result ≤ 2 }
 {
     match words(rt) {
@@ -60,10 +72,10 @@ fn is_payload(option: &str, word: &str) -> bool
 }
 
 /// Runs the program with these words from standard input to standard output, by the files of the system.
-fn run_on_devices<'a, R: Input + Print + Eprint + Screen + Files + Clock + AllocGlobal>(
-    rt: &R,
-    words: &'a [String],
-) -> Outcome<'a>
+fn run_on_devices<
+    'a,
+    R: Input + Print + Eprint + Screen + Files<File = File> + Clock + AllocGlobal + Clone + Drop,
+>(rt: &R, words: &'a [String]) -> Outcome<'a>
     ensures { result.status ≤ 2 }
 {
     let Ok(mut writer) = standard_output(rt) else {

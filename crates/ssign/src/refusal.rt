@@ -3,16 +3,20 @@ ghost use Rattle.std.specs.Prelude.{◌≡◌};
 ghost use Rattle.ssign.specs.Refusal.{code_seen, refusal_code};
 
 use crate::extraction::ExtractionFault;
+use crate::folder_fault::FolderFault;
 use crate::questions_fault::QuestionsFault;
 use crate::settings::SettingsFault;
 use crate::task::Task;
 use ss_answers::{AnswerFault, CounterFault, PlaceFault, StartFault};
+use ss_live::LiveFault;
 use ss_octets::Code;
 use ss_report::RunFault;
 use ss_signed::DescribeFault;
 use ss_signing::SignFault;
+use ss_spelled::SpellFault;
 
-/// Why a command gives no verdict. But for a failed write, and for lines that were answered, nothing was written then.
+/// Why a command gives no verdict. But for a failed write, and for lines or events that were answered, nothing was written
+/// then.
 #[derive(Clone, Copy, Debug, PartialEq, Eq)]
 pub enum Refusal {
     /// An option isn't there, or has no number in its range, which a parse by `command` doesn't let through.
@@ -55,6 +59,12 @@ pub enum Refusal {
     Signing(SignFault),
     /// A run over lines stopped. Those before were answered.
     Describing(DescribeFault),
+    /// A run over lines about fragments stopped. Those before were answered.
+    Spelling(SpellFault),
+    /// The folder that a live signer writes to can't be opened.
+    Folder(FolderFault),
+    /// A run that signs messages as they come stopped. The events before were answered.
+    Living(LiveFault),
     /// No code is asked about, and not for all of them.
     NoCode,
     /// No entry has the code that is asked about.
@@ -85,6 +95,9 @@ impl Refusal {
             Refusal::LateAnswers(fault) => Some(fault.code()),
             Refusal::Signing(fault) => Some(fault.code()),
             Refusal::Describing(fault) => Some(fault.code()),
+            Refusal::Spelling(fault) => Some(fault.code()),
+            Refusal::Folder(fault) => Some(fault.code()),
+            Refusal::Living(fault) => Some(fault.code()),
         }
     }
 }

@@ -5,13 +5,13 @@ ghost use Rattle.ssign.specs.Remark.{IsRemark, cause_remark, SaysOfSettings};
 
 use crate::asked::asked_word;
 use crate::command_line::{
-    answers_file, ask_file, counters_file, facts_file, from_file, pinned_file, places_file,
-    resume_file,
+    answers_file, ask_file, counters_file, facts_file, from_file, live_folder, pinned_file,
+    places_file, resume_file,
 };
 use crate::explain::explanation_of;
 use crate::explanations::{Tables, all_tables};
 use crate::likely_cause::{LikelyCause, run_cause, signing_cause};
-use crate::options::{ANSWERS, ASK, COUNTERS, FACTS, FROM, PINNED, PLACES, RESUME};
+use crate::options::{ANSWERS, ASK, COUNTERS, FACTS, FOLDER, FROM, PINNED, PLACES, RESUME};
 use crate::outcome::{Notice, Outcome, REFUSED};
 use crate::refusal::Refusal;
 use crate::settings::SettingsFault;
@@ -60,6 +60,8 @@ pub enum Remark<'a> {
     PlacesFile(&'a str),
     /// This counters file, at which an originator was to go on.
     ResumeFile(&'a str),
+    /// This folder, to which a live signer was to write.
+    Folder(&'a str),
     /// This option, and its text.
     Text(TextOption, &'a str),
     /// The log, of which this most likely is the cause.
@@ -98,6 +100,7 @@ impl Display for Remark<'_> {
             Remark::ResumeFile(file) => {
                 writeln!(f, "The counters file is --{} {file:?}.", RESUME.name)
             }
+            Remark::Folder(folder) => { writeln!(f, "The folder is --{} {folder:?}.", FOLDER.name) }
             Remark::Text(option, text) => {
                 writeln!(f, "The option is --{} {text:?}.", option.name())?;
                 if *option == TextOption::Payload && !text.contains(' ') {
@@ -180,6 +183,10 @@ pub fn remark_on<'a>(
             Some(file) => Remark::ResumeFile(file),
             None => Remark::Nothing,
         },
+        Refusal::Folder(_) => match live_folder(options) {
+            Some(folder) => Remark::Folder(folder),
+            None => Remark::Nothing,
+        },
         Refusal::Settings(fault) => settings_remark(fault, options),
         Refusal::Run(fault) => cause_remark(run_cause(&fault, form, octets)),
         Refusal::Signing(fault) => cause_remark(signing_cause(&fault, form, octets)),
@@ -190,6 +197,8 @@ pub fn remark_on<'a>(
         | Refusal::LateRun(_)
         | Refusal::Extraction(_)
         | Refusal::Describing(_)
+        | Refusal::Spelling(_)
+        | Refusal::Living(_)
         | Refusal::NoCode
         | Refusal::NoEntry => Remark::Nothing,
     }

@@ -26,14 +26,14 @@ use std::alloc::Global;
 
 /// The texts that the options give.
 #[derive(Clone, Copy, Debug)]
-struct Texts<'a> {
-    payload: &'a str,
-    stamp: &'a str,
-    host: &'a str,
-    app: &'a str,
-    procid: &'a str,
-    msgid: &'a str,
-    groups: &'a str,
+pub(crate) struct Texts<'a> {
+    pub(crate) payload: &'a str,
+    pub(crate) stamp: &'a str,
+    pub(crate) host: &'a str,
+    pub(crate) app: &'a str,
+    pub(crate) procid: &'a str,
+    pub(crate) msgid: &'a str,
+    pub(crate) groups: &'a str,
 }
 
 /// How a log is to be signed.
@@ -128,7 +128,12 @@ fn texts_of<'a>(matches: &ArgMatches<'a>) -> Option<Texts<'a>>
 }
 
 /// The number of an option, where it is from `least` to `most`.
-fn number_in(matches: &ArgMatches<'_>, option: &str, least: u64, most: u64) -> Option<u64>
+pub(crate) fn number_in(
+    matches: &ArgMatches<'_>,
+    option: &str,
+    least: u64,
+    most: u64,
+) -> Option<u64>
     ensures found { IfSome result (HasNumberIn matches.now option.now least most) }
     ensures only { (n : ℕ) → HasNumberIn matches.now option.now least most n → result ≡ Some n }
 {
@@ -141,7 +146,7 @@ fn number_in(matches: &ArgMatches<'_>, option: &str, least: u64, most: u64) -> O
 
 /// The settings that choices and texts give.
 #[tactic(auto, unfolding(crate::specs::Settings::settings_in, crate::specs::Settings::refused_option))]
-fn settings_from(
+pub(crate) fn settings_from(
     alloc: Global,
     choices: Choices,
     texts: &Texts<'_>,

@@ -13,12 +13,12 @@ from typing import BinaryIO, Dict, Iterator, List, NamedTuple, Tuple
 from ..blocks import Session
 from ..faults import Fault
 from ..frames import LONGEST as LONGEST_FRAME
-from ..live_wraps import wrap_of
 from ..programs import Run
 from ..progress import Progress
 from ..set_aside import DEFAULT_LONGEST as LONGEST
 from ..workplace import Workplace, finish, put
 from .link import MSGID
+from .wraps import wrap_of
 
 READING = ["--lines", f"--max-len={LONGEST}"]
 # the lines of `ssign inspect --findings --unwrap` about messages that are signed as they are

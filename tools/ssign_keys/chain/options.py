@@ -16,8 +16,7 @@ DAY = 86400
 APP = "ssign"
 # options of `sign` that are about one log, each with the name of its value
 OF_ONE_LOG = {"rsid": "rsid", "payload": "payload", "stamp": "stamp", "pri": "pri", "msgid": "msgid", "ver": "ver",
-              "groups": "groups", "count": "count", "frag": "frag", "copies": "copies", "state": "state",
-              "new-session": "new_session", "set-aside": "set_aside", "no-wrap": "no_wrap", "frames": "frames",
+              "groups": "groups", "count": "count", "frag": "frag", "copies": "copies", "set-aside": "set_aside", "no-wrap": "no_wrap", "frames": "frames",
               "max-len": "max_len", "max-messages": "max_messages"}
 
 

@@ -142,7 +142,7 @@ class Writer:
             log = Opened(file, [Part("its messages", 0, 0)], True, True)
             try:
                 words = self._words(link.rsid)
-                seals = seal(self._program, words, self._key, log, self._workplace, Progress(), None, lambda: None)
+                seals = seal(self._program, words, self._key, log, self._workplace, Progress(), lambda: None)
                 write(self._program, words, seals, log, self._workplace, Progress(), draft)
             except Refused as refused:
                 raise self._refusal(refused) from refused

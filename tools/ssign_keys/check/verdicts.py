@@ -111,7 +111,7 @@ def verdict_on(judges: Judges, path: str, trust: Trust, also: Callable[[Reviewed
             verifier.read(found[-1])
             return Shown(array("I", sorted(found[-1].places)))
 
-        verifier = Verifier(Runs(judges.program, arguments, log, workplace, progress), Missing([], None), None, choose, True)
+        verifier = Verifier(Runs(judges.program, arguments, log, workplace, progress), Missing([], None), choose, True)
         try:
             reviewed = verifier.review(trust, NONE)
         except Refused as refused:

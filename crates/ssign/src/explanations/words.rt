@@ -3,7 +3,7 @@
 use super::Explanation;
 
 /// Last lines of a report, states of a session, lines of an inspection, and lines of answers, plans and questions.
-pub static WORDS: [Explanation; 25] = [
+pub static WORDS: [Explanation; 33] = [
     Explanation {
         code: "none-listed",
         text: "Only ssign review --some-listed writes this line, in front of the report. No message of the log is \
@@ -162,5 +162,48 @@ pub static WORDS: [Explanation; 25] = [
         text: "A question: is this signature valid for these octets, under the key of this payload? The answer is the \
             same line in an answers file, with yes in place of yes?. Answers that nobody checked make any forged log \
             pass. ssign-keys answer checks each question, and answers those that hold.",
+    },
+    Explanation {
+        code: "G1",
+        text: "G1 LINE: this line has neither of the forms fragment TOTAL INDEX OCTETS and spell, or no line feed ends it. \
+            TOTAL and INDEX are numbers from 1 to 99999999. OCTETS is base64 of 1 to 9999 octets. The lines before it \
+            were answered. Only this one is named: mend it.",
+    },
+    Explanation {
+        code: "J1",
+        text: "The first event that ssign live read isn't b SECONDS STAMP, or there is none. See what drives it: it has to \
+            send this event first.",
+    },
+    Explanation {
+        code: "J2",
+        text: "What ssign live read is no octet-counted frame of at most 1048576 octets, or ends inside of one. The \
+            events before were answered. See what drives it, and start it again.",
+    },
+    Explanation {
+        code: "J3",
+        text: "A file of the folder can't be written or read, or others have changed it. What was answered by c is on \
+            the disk; what came later may be missing. See that the disk has room and works, and that nobody else \
+            writes there. Then start again, and send again what wasn't confirmed.",
+    },
+    Explanation {
+        code: "J4",
+        text: "The numbers of sessions, messages or blocks are used up: none is greater than 9999999999. Go on in another \
+            folder, with another --app.",
+    },
+    Explanation {
+        code: "J5",
+        text: "The last file of the folder announces more messages than it has: it was cut or changed. Keep a copy of the \
+            folder, move that file elsewhere, and start again. ssign-keys verify reports what is missing.",
+    },
+    Explanation {
+        code: "J6",
+        text: "A block would have more than 1048576 octets, so no file can hold it. Start again with a smaller --count or \
+            --frag.",
+    },
+    Explanation {
+        code: "J7",
+        text: "The folder of --folder isn't there, is no folder, or can't be opened; or the text of --stem can't stand \
+            in front of a name. It has 1 to 200 printable ASCII characters without a space, a quotation mark, a backslash \
+            and a slash, and begins with no point. Make the folder, or correct the option.",
     },
 ];

@@ -3,7 +3,7 @@ use Rattle.std.specs.Prelude.{bytes_eq, find, unwrap_or}
 use Rattle.std.proofs.lemmas.Slice.Eq.{bytes_eq-Decides}
 use Rattle.ssign.specs.CommandLine.{name_of, order_in, orders}
 use Rattle.ssign.specs.declared.command_line.Order.{Order}
-use Rattle.ssign.specs.declared.command_line.Order.TheVariants.{Log, Sent, Describe, Explain}
+use Rattle.ssign.specs.declared.command_line.Order.TheVariants.{Log, Sent, Describe, Spell, Live, Explain}
 use Rattle.ssign.specs.declared.task.Task.TheVariants.{Review, Questions, Extract, Inspect, Counters, Carry}
 use Rattle.ssign.specs.declared.signing.Signing.TheVariants.{Plan, Sign}
 use Rattle.ssign.proofs.laws.commands_are_found_by_name.Goals as goal
@@ -18,6 +18,8 @@ found (Log Carry) = refl
 found (Sent Plan) = refl
 found (Sent Sign) = refl
 found Describe = refl
+found Spell = refl
+found Live = refl
 found Explain = refl
 
 -- the first of some commands has the name, or what is found is among the others
