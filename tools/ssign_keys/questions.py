@@ -73,11 +73,16 @@ class Reader:
     def _read(self, line: bytes) -> Optional[Asked]:
         """The question of a line. The first line says in which form all are."""
         if self._form is None:
-            if self._describer is None:
-                self._form = Objects(self._most)
-            else:
-                self._form = (Once if line.startswith(b"payload ") else Plain)(self._most, self._describer)
+            self._form = self._form_of(line)
         return self._form.read(line, self._line_number)
+
+    def _form_of(self, line: bytes) -> Form:
+        """The form of all lines, by the first one."""
+        if self._describer is None:
+            return Objects(self._most)
+        if line.startswith(b"payload "):
+            return Once(self._most, self._describer)
+        return Plain(self._most, self._describer)
 
     def _is_full(self) -> bool:
         """Whether another line belongs to the next chunk."""

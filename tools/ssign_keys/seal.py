@@ -123,8 +123,11 @@ def seal_each(arguments: argparse.Namespace, key: PrivateKey, program: str, want
 
     def check(block: Written, octets: bytes, line: int) -> None:
         refuse_other_session(block.session, wanted)
-        wants = payload.stamp(block) if isinstance(block, Certificate) else record_of(block, octets, 0)
-        ask(block.session, wants, "rsid" in wanted)
+        is_bound = "rsid" in wanted
+        if isinstance(block, Certificate):
+            ask(block.session, payload.stamp(block), is_bound)
+        else:
+            ask(block.session, record_of(block, octets, 0), is_bound)
 
     with Describer(program) as describer:
         for line in seals(short_lines(LONGEST), key, describer, check):
